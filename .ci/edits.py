@@ -6,7 +6,7 @@ to do for them. Each edit is judged by what the prover says of the function that
 is not proved. Where it is refused only because one that it calls is, nothing is known of its edit. `control_all` asks for the same functions without
 their edits: there none may be refused for its own sake.
 
-Checks of edits take the processors that no other process wants, so that they can go on beside proofs and tests.
+A check of edits begins once a processor has nothing to do. Beside as many proofs as there are processors an edit would take three times as long.
 """
 import contextlib
 import os
@@ -14,19 +14,23 @@ import re
 import shutil
 import signal
 import subprocess
+import sys
 import tempfile
 import threading
 import time
 from concurrent.futures import ThreadPoolExecutor
 
+sys.path.insert(0, os.path.dirname(os.path.realpath(__file__)))
+from processes import below, idle_processors, processes  # noqa: E402
+
 # The most edits that are tried together, for the memory that a check takes.
 MOST = 16
 # In bytes: what a check takes at most.
 NEED = 3_000_000_000
-# In seconds of a processor: beside other work a check may wait for long.
-LIMIT = 1800
-# The checks that run, and whether all are to end.
-checks, is_stopped = set(), threading.Event()
+# In seconds of a processor. (A batch takes one to two minutes.)
+LIMIT = 600
+# The checks that run, and whether all are to end. One begins at a time.
+checks, is_stopped, beginning = set(), threading.Event(), threading.Lock()
 # What is told of a proof that names something which the edit took away.
 NAMES = re.compile(r"has no field|is not in scope|has no `|was not admitted")
 
@@ -43,7 +47,7 @@ class Edit:
     """An edit of a crate: which texts of which files it changes, and in which functions they stand."""
 
     def __init__(self, crate, path):
-        self.crate, self.name, self.pairs, self.functions = crate, os.path.basename(path), [], []
+        self.crate, self.path, self.name, self.pairs, self.functions = crate, path, os.path.basename(path), [], []
         file, old = "", ""
         with open(path, encoding="utf-8") as lines:
             for line in lines.read().split("\n"):
@@ -250,12 +254,21 @@ def without_bodies(crate, top, file, kept):
             found.append(lines[number])
         else:
             found += [*lines[number : start + 1], f"{head[1]}    unreachable!()", lines[end]]
-            for it in ("Answers", "Invariants", "Proof"):
-                with contextlib.suppress(FileNotFoundError):
-                    os.remove(f"{top}/proofs/{function.replace('::', '/')}/{it}.antt")
+            leave_unproved(crate, f"{top}/proofs", function)
         offset += sum(len(it) + 1 for it in lines[number : end + 1])
         number = end + 1
     return "\n".join(found)
+
+
+def leave_unproved(crate, proofs, function):
+    """Gives a function without a body a proof that is wrong at once. (Where an asked function calls it, the prover is to prove it too, and would search.)"""
+    at = f"{proofs}/{function.replace('::', '/')}"
+    for it in ("Answers", "Invariants", "Proof"):
+        with contextlib.suppress(FileNotFoundError):
+            os.remove(f"{at}/{it}.antt")
+    os.makedirs(at, exist_ok=True)
+    goals, name = f"use Rattle.{crate}.proofs.{function.replace('::', '.')}.Goals as goal", "unreachable-requires"
+    write(f"{at}/Answers.antt", f"{goals}\n\npub {name} : goal.{name}\n{name} = tt\n")
 
 
 def check(library, name, functions, edits, kept, is_cut):
@@ -280,12 +293,14 @@ def check(library, name, functions, edits, kept, is_cut):
 
 
 def run_beside(words, room):
-    """Runs a check in a folder beside other work, once there is memory for it. Gives its exit status and what it says."""
-    wait_for_memory()
+    """Runs a check in a folder beside other work, once there is a processor and memory for it. Gives its exit status and what it says."""
     words = ["nice", "-n", "19", "prlimit", f"--cpu={LIMIT}:{2 * LIMIT}", *words]
     how = {"cwd": room, "stdin": subprocess.DEVNULL, "stdout": subprocess.PIPE, "stderr": subprocess.STDOUT, "text": True, "errors": "replace"}
-    with subprocess.Popen(words, **how) as run:
-        checks.add(run)
+    with contextlib.ExitStack() as left:
+        with beginning:
+            wait_for_room()
+            run = left.enter_context(subprocess.Popen(words, **how))
+            checks.add(run)
         said = run.communicate()[0]
         checks.discard(run)
     if is_stopped.is_set():
@@ -293,11 +308,13 @@ def run_beside(words, room):
     return run.returncode, said
 
 
-def wait_for_memory():
-    """Waits until there is the memory that a check takes at most, for half an hour at the longest."""
+def wait_for_room():
+    """Waits until a processor is idle, or no prover runs below this process, and there is the memory that a check takes at most, for half an hour at the
+    longest. (In the second in which idle processors are counted, a check that has just begun is already at work.)"""
     until = time.monotonic() + 1800
-    while free_memory() < NEED and time.monotonic() < until and not is_stopped.wait(1):
-        pass
+    while not is_stopped.is_set() and time.monotonic() < until:
+        if (idle_processors(1) > 0.7 or not below(os.getpid(), "rattle", processes())) and free_memory() >= NEED:
+            break
 
 
 def with_function(crate, room, line):
@@ -406,9 +423,16 @@ def next_batch(edits):
     return batch
 
 
-def try_crate(library, edits, tell):
-    """Tries the edits of a crate, and gives how many of them were refused."""
-    left, refused, is_stuck = edits, 0, False
+def try_crate(library, verdicts, edits, tell):
+    """Tries the edits of a crate, but for those that are known to be refused. Gives how many are refused."""
+    left, is_stuck = [], False
+    for it in edits:
+        said = verdicts.said(it)
+        if said:
+            tell(f"must-fail {it.crate}/{it.name}: {said} (it was tried before)")
+        else:
+            left.append(it)
+    refused = len(edits) - len(left)
     with tempfile.TemporaryDirectory(prefix="edits-") as kept:
         while left:
             batch = left[:1] if is_stuck else next_batch(left)
@@ -418,6 +442,8 @@ def try_crate(library, edits, tell):
                 if found:
                     tell(f"must-fail {edit.crate}/{edit.name}: {found[1]}")
                     refused += found[0]
+                    if found[0]:
+                        verdicts.keep(edit, found[1])
             left, is_stuck = [it for it in left if it not in settled], not settled
     return refused
 
@@ -450,28 +476,28 @@ def lanes():
     return max(1, min(len(os.sched_getaffinity(0)), free_memory() // NEED))
 
 
-def edits_of(crates, folder):
-    """The edits of each crate that has some in its folder of this name."""
+def edits_of(crates, *folders):
+    """The edits of each crate that has some in its folders of these names."""
     found = {}
-    for name in crates:
-        at = f"crates/{name}/{folder}"
+    for at in [f"crates/{name}/{folder}" for name in crates for folder in folders]:
         if os.path.isdir(at):
-            found[name] = [Edit(name, f"{at}/{it}") for it in sorted(os.listdir(at)) if it.endswith(".edit")]
+            name = at.split("/")[1]
+            found.setdefault(name, []).extend(Edit(name, f"{at}/{it}") for it in sorted(os.listdir(at)) if it.endswith(".edit"))
     return {name: edits for name, edits in found.items() if edits}
 
 
 def side_by_side(library, found, work):
-    """Does some work for each crate, the highest crates first. Gives for how many of all edits it went as it has to, and for how many not."""
+    """Does some work for each crate, the highest crates first. Gives of each for how many edits it went as it has to, and for how many not."""
     order = sorted(found, key=lambda it: -len(library.below(it)))
     pool = ThreadPoolExecutor(lanes())
-    begun = [pool.submit(work, found[it]) for it in order]
+    begun = {it: pool.submit(work, found[it]) for it in order}
     try:
-        well = sum(it.result() for it in begun)
+        well = {name: it.result() for name, it in begun.items()}
     except BaseException:
-        end_all(pool, begun)
+        end_all(pool, begun.values())
         raise
     pool.shutdown()
-    return well, sum(map(len, found.values())) - well
+    return {name: (it, len(found[name]) - it) for name, it in well.items()}
 
 
 def end_all(pool, begun):
@@ -484,35 +510,34 @@ def end_all(pool, begun):
         time.sleep(0.1)
 
 
-def try_all(library, found, tell):
-    """Tries the edits of several crates. Gives how many were refused, and how many not."""
-    return side_by_side(library, found, lambda edits: try_crate(library, edits, tell))
+def try_all(library, verdicts, found, tell):
+    """Tries the edits of several crates. Gives of each how many were refused, and how many not."""
+    return side_by_side(library, found, lambda edits: try_crate(library, verdicts, edits, tell))
 
 
 class Trials:
     """Edits that are tried while crates are still being proved."""
 
-    def __init__(self, library, found, tell):
-        self.library, self.left, self.tell, self.begun, self.count = library, dict(found), tell, [], 0
+    def __init__(self, library, verdicts, found, tell):
+        self.library, self.verdicts, self.left, self.tell, self.begun = library, verdicts, dict(found), tell, {}
         self.pool = ThreadPoolExecutor(lanes())
 
     def begin(self, name):
         """Begins to try the edits of a crate, if it has some, where the libraries that it stands on are built."""
         if name in self.left and self.library.is_there(name):
             edits = self.left.pop(name)
-            self.count += len(edits)
-            self.begun.append(self.pool.submit(try_crate, self.library, edits, self.tell))
+            self.begun[name] = len(edits), self.pool.submit(try_crate, self.library, self.verdicts, edits, self.tell)
 
     def end(self):
-        """Gives, once those that were begun are tried, how many of them were refused and how many not."""
-        refused = sum(it.result() for it in self.begun)
-        return refused, self.count - refused
+        """Gives, once those that were begun are tried, of each crate how many edits were refused and how many not."""
+        refused = {name: (count, run.result()) for name, (count, run) in self.begun.items()}
+        return {name: (well, count - well) for name, (count, well) in refused.items()}
 
     def stop(self):
         """Ends all checks of edits."""
-        end_all(self.pool, self.begun)
+        end_all(self.pool, [run for _, run in self.begun.values()])
 
 
 def control_all(library, found, tell):
-    """Gives of how many edits the functions are right without them, and of how many not."""
+    """Gives of each crate for how many edits the functions are right without them, and for how many not."""
     return side_by_side(library, found, lambda edits: control_crate(library, edits, tell))

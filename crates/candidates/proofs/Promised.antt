@@ -8,7 +8,7 @@ use Rattle.machine_data.specs.declared.opcode.Opcode.{Opcode}
 use Rattle.loop_data.specs.declared.language.statement.Statement.{Statement}
 use Rattle.loop_data.specs.Loops.{LoopData}
 use Rattle.graph.specs.Dependences.{latency_in}
-use Rattle.graph.specs.Schedules.{IsLawfulSchedule}
+use Rattle.edges.specs.Schedules.{IsLawfulSchedule}
 use Rattle.graph.specs.Units.{opcodes_of}
 use Rattle.loop_schedules.specs.Problems.{ProblemData, IsProblemOf}
 use Rattle.loop_schedules.specs.Schedules.{ScheduleData, IsSchedule}

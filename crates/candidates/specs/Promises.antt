@@ -4,8 +4,9 @@ use Rattle.std.specs.List.{All, AllZip}
 use Rattle.machine_data.specs.Machines.{MachineData, table_of}
 use Rattle.loop_data.specs.Loops.{LoopData}
 use Rattle.graph.specs.Dependences.{latency_in}
-use Rattle.graph.specs.Graphs.{GraphData, IsGraphOf}
-use Rattle.graph.specs.Schedules.{IsLawfulSchedule}
+use Rattle.edges.specs.Graphs.{GraphData}
+use Rattle.graph.specs.Graphs.{IsGraphOf}
+use Rattle.edges.specs.Schedules.{IsLawfulSchedule}
 use Rattle.graph.specs.Units.{opcodes_of, operations_of}
 use Rattle.loop_schedules.specs.Problems.{ProblemData, IsProblemOf}
 use Rattle.kernel.specs.declared.kernels.operation.Operation.{Operation}

@@ -18,7 +18,7 @@ use rotating::{allot, emit};
 use std::alloc::Global;
 
 /// What an interval gives.
-#[derive(Debug, Drop)]
+#[derive(Drop)]
 pub enum Outcome {
     /// A kernel.
     Met(Kernel),

@@ -7,8 +7,8 @@ use Rattle.std.proofs.lemmas.Bool.{cases_lt}
 use Rattle.std.proofs.lemmas.List.{get_or-replicate, get_or_past, length-replicate}
 use Rattle.std.proofs.lemmas.List.Elements.{All-nil, All-push, Contains-append_left, Contains-push}
 use Rattle.std.proofs.Math.ListN.{replicate}
-use Rattle.graph.specs.Dependences.{EdgeData}
-use Rattle.graph.specs.Kept.{KeepsNumber}
+use Rattle.edges.specs.Edges.{EdgeData}
+use Rattle.walks.specs.Kept.{KeepsNumber}
 use Rattle.circuits.specs.inner.Layers.{LeadsOn, IsFarthest}
 
 pub zeros : (n p : ℕ) → slice_index (replicate n 0) p ≡ 0

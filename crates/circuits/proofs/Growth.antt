@@ -4,9 +4,9 @@ use Rattle.std.specs.List.{slice_index, slice_index_or}
 use Rattle.std.specs.Option.{IsSome}
 use Rattle.std.proofs.lemmas.Int.{ints}
 use Rattle.std.proofs.lemmas.List.{get_or_append_left, get_or_push, get_or_default, length-append}
-use Rattle.graph.specs.Dependences.{EdgeData}
-use Rattle.graph.specs.Graphs.{GraphData, IsGraph}
-use Rattle.graph.specs.Walks.{IsWalk, delay_of, distance_of}
+use Rattle.edges.specs.Edges.{EdgeData}
+use Rattle.edges.specs.Graphs.{GraphData, IsGraph}
+use Rattle.walks.specs.Walks.{IsWalk, delay_of, distance_of}
 use Rattle.circuits.specs.declared.layer.Layer.{Layer}
 use Rattle.circuits.specs.Circuits.{IsCircuitAbove}
 use Rattle.circuits.specs.inner.Layers.{IsLayer, IsReturn}

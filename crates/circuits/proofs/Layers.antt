@@ -3,8 +3,8 @@ use Rattle.std.proofs.Common.{◌≡◌, ◌≢◌, set, get_or-set_other, get_o
 use Rattle.std.specs.List.{slice_index, slice_index_or, All}
 use Rattle.std.proofs.lemmas.Bool.{cases_lt}
 use Rattle.std.proofs.lemmas.List.Elements.{All-filter}
-use Rattle.graph.specs.Dependences.{EdgeData}
-use Rattle.graph.specs.Graphs.{GraphData, IsGraph}
+use Rattle.edges.specs.Edges.{EdgeData}
+use Rattle.edges.specs.Graphs.{GraphData, IsGraph}
 use Rattle.circuits.specs.inner.Layers.{IsFarthest}
 
 -- the walk from an operation, in a layer

@@ -3,11 +3,11 @@ use Rattle.std.proofs.Common.{◌≡◌, ◌≢◌, ℕ, zero, suc, ◌+◌, ◌
 use Rattle.std.specs.List.{slice_index_or}
 use Rattle.std.proofs.lemmas.Bool.{cases_lt}
 use Rattle.std.proofs.lemmas.List.{get_or_append_left, get_or_push, length-append}
-use Rattle.graph.specs.Dependences.{EdgeData}
-use Rattle.graph.specs.Graphs.{GraphData}
-use Rattle.graph.specs.Walks.{IsWalk}
-use Rattle.graph.proofs.walks.Circuits.{IsWalk-append}
-use Rattle.graph.proofs.walks.Sweeps.{via-edge}
+use Rattle.edges.specs.Edges.{EdgeData}
+use Rattle.edges.specs.Graphs.{GraphData}
+use Rattle.walks.specs.Walks.{IsWalk}
+use Rattle.walks.proofs.Circuits.{IsWalk-append}
+use Rattle.walks.proofs.Sweeps.{via-edge}
 use Rattle.circuits.specs.inner.Sweeps.{AreFirst, GoesRoundOnce}
 
 -- each edge of the walk is the one that is kept for its operation

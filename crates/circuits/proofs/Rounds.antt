@@ -10,10 +10,10 @@ use Rattle.std.proofs.lemmas.List.Elements.{All-contains}
 use Rattle.std.proofs.lemmas.Map.Keys.{IsDistinct-cons}
 use Rattle.std.proofs.lemmas.Map.Steps.{length-le_from_distinct_below}
 use Rattle.std.proofs.Math.Nat.{mul-add}
-use Rattle.graph.specs.Dependences.{EdgeData}
-use Rattle.graph.specs.Graphs.{GraphData, IsGraph}
-use Rattle.graph.specs.Walks.{IsWalk, delay_of, distance_of}
-use Rattle.graph.proofs.walks.Circuits.{IsWalk-append, delay_of-append, distance_of-append}
+use Rattle.edges.specs.Edges.{EdgeData}
+use Rattle.edges.specs.Graphs.{GraphData, IsGraph}
+use Rattle.walks.specs.Walks.{IsWalk, delay_of, distance_of}
+use Rattle.walks.proofs.Circuits.{IsWalk-append, delay_of-append, distance_of-append}
 use Rattle.circuits.specs.Circuits.{IsCircuitAbove}
 use Rattle.circuits.specs.inner.Layers.{IsReturn}
 use Rattle.circuits.proofs.Returns.{GoesOnOnce}

@@ -4,10 +4,10 @@ use Rattle.std.specs.Prelude.{◌≤ℤ◌, IfSome}
 use Rattle.std.specs.List.{slice_index, All, Contains}
 use Rattle.std.proofs.lemmas.Int.{ints}
 use Rattle.std.proofs.lemmas.Bool.{cases_eq}
-use Rattle.graph.specs.Dependences.{EdgeData}
-use Rattle.graph.specs.Graphs.{GraphData, IsGraph}
-use Rattle.graph.specs.Kept.{KeepsNumber}
-use Rattle.graph.proofs.walks.Sweeps.{KeepFrom, vias-set}
+use Rattle.edges.specs.Edges.{EdgeData}
+use Rattle.edges.specs.Graphs.{GraphData, IsGraph}
+use Rattle.walks.specs.Kept.{KeepsNumber}
+use Rattle.walks.proofs.Sweeps.{KeepFrom, vias-set}
 use Rattle.circuits.specs.inner.Layers.{LeadsOn}
 use Rattle.circuits.specs.inner.Sweeps.{AreShort, AreFirst}
 use Rattle.circuits.proofs.Layers.{IsFarthestAt}

@@ -7,13 +7,13 @@ use Rattle.std.proofs.lemmas.Bool.{cases_lt, eq-eqb, eqb-true}
 use Rattle.std.proofs.lemmas.List.{get_or_append_left, get_or_push, length-append}
 use Rattle.std.proofs.lemmas.List.Elements.{All-contains}
 use Rattle.std.proofs.Math.Nat.{mul-add}
-use Rattle.graph.specs.Dependences.{EdgeData}
-use Rattle.graph.specs.Graphs.{GraphData, IsGraph}
-use Rattle.graph.specs.Kept.{KeepsNumber}
-use Rattle.graph.specs.Walks.{IsWalk, delay_of, distance_of, FitsCircuits}
-use Rattle.graph.proofs.walks.Circuits.{IsWalk-append, delay_of-append, distance_of-append}
-use Rattle.graph.proofs.walks.Raises.{all-from_filter, contained-from_filter}
-use Rattle.graph.proofs.walks.Sweeps.{fits-from_kept_numbers, keeps-from_each}
+use Rattle.edges.specs.Edges.{EdgeData}
+use Rattle.edges.specs.Graphs.{GraphData, IsGraph}
+use Rattle.walks.specs.Kept.{KeepsNumber}
+use Rattle.walks.specs.Walks.{IsWalk, delay_of, distance_of, FitsCircuits}
+use Rattle.walks.proofs.Circuits.{IsWalk-append, delay_of-append, distance_of-append}
+use Rattle.walks.proofs.Raises.{all-from_filter, contained-from_filter}
+use Rattle.walks.proofs.Sweeps.{fits-from_kept_numbers, keeps-from_each}
 use Rattle.circuits.specs.declared.layer.Layer.{Layer}
 use Rattle.circuits.specs.inner.Layers.{LeadsOn, IsLayer}
 use Rattle.circuits.proofs.Rounds.{Rises}

@@ -2,9 +2,9 @@
 use Rattle.std.proofs.Common.{◌≡◌, ℕ, ◌+◌, ◌<◌, pos, ◌+ℤ◌, List, [], ◌∷◌, length, get_or, take, ap, ◌∙◌, arith}
 use Rattle.std.proofs.lemmas.Int.{ints}
 use Rattle.std.proofs.lemmas.List.{take_more}
-use Rattle.graph.specs.Dependences.{EdgeData}
-use Rattle.graph.specs.Walks.{delay_of, distance_of}
-use Rattle.graph.proofs.walks.Circuits.{delay_of-append, distance_of-append}
+use Rattle.edges.specs.Edges.{EdgeData}
+use Rattle.walks.specs.Walks.{delay_of, distance_of}
+use Rattle.walks.proofs.Circuits.{delay_of-append, distance_of-append}
 
 pub delay-more : (xs : List EdgeData) (i : ℕ) (d : EdgeData) → i < length xs → delay_of (take (i + 1) xs) ≡ (delay_of (take i xs) +ℤ (get_or xs i d).delay)
 delay-more xs i d h =

@@ -1,4 +1,4 @@
 pub mod Circuits
 pub mod Promises
 pub mod inner
-pub use Rattle.graph.specs.Walks
+pub use Rattle.walks.specs.Walks

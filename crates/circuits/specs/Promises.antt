@@ -1,7 +1,7 @@
 -- What circuits tell of the recurrence-constrained lower bound.
 use Rattle.std.specs.Prelude.{ℕ, ◌-◌, ◌<◌, List}
-use Rattle.graph.specs.Dependences.{EdgeData}
-use Rattle.graph.specs.Walks.{FitsCircuits, IsRecurrenceBound}
+use Rattle.edges.specs.Edges.{EdgeData}
+use Rattle.walks.specs.Walks.{FitsCircuits, IsRecurrenceBound}
 use Rattle.circuits.specs.Circuits.{IsCircuitAbove}
 
 -- a circuit that does not fit an interval tells that the bound is longer

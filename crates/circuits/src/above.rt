@@ -2,15 +2,15 @@
 
 ghost use Rattle.std.specs.Prelude.{◌≡◌, ◌≢◌, ◌≤◌, ◌==◌, position, IfOk, MatchOption};
 ghost use Rattle.std.specs.List.{AllPairs};
-ghost use Rattle.graph.specs.declared.dependence.edge.Edge.{Edge};
-ghost use Rattle.graph.specs.Walks.{FitsCircuits};
+ghost use Rattle.edges.specs.declared.edge.Edge.{Edge};
+ghost use Rattle.walks.specs.Walks.{FitsCircuits};
 ghost use Rattle.circuits.specs.Circuits.{IsCircuitAbove};
 ghost use Rattle.circuits.specs.inner.Layers.{IsReturn};
 ghost use Rattle.machine_data.specs.declared.limits.TheConstants.{MAX_INTERVAL};
 
 use crate::layer::{longer_walks, without_edges};
 use crate::sweeps::{Swept, sweep_all};
-use graph::{Edge, Edges};
+use edges::{Edge, Edges};
 use machine_data::OutOfMemory;
 use std::alloc::Global;
 

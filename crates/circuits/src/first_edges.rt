@@ -6,7 +6,7 @@ ghost use Rattle.circuits.specs.inner.Sweeps.{AreFirst, GoesRoundOnce};
 ghost use Rattle.machine_data.specs.declared.limits.TheConstants.{MAX_INTERVAL};
 
 use crate::sums::exceeds;
-use graph::{Edge, Edges};
+use edges::{Edge, Edges};
 use machine_data::OutOfMemory;
 use machine_data::limits::MAX_STATEMENTS;
 use std::alloc::Global;

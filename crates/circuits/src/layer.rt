@@ -2,12 +2,12 @@
 
 ghost use Rattle.std.specs.Prelude.{◌≡◌, ℕ, pos, ◌*◌, ◌+◌, ◌+ℤ◌, ◌-ℤ◌, ◌≤ℤ◌, ◌<◌, ◌≤◌, length, slice_index, MatchOption};
 ghost use Rattle.std.specs.List.{All};
-ghost use Rattle.graph.specs.declared.dependence.edge.Edge.{Edge};
-ghost use Rattle.graph.specs.Graphs.{IsGraph};
+ghost use Rattle.edges.specs.declared.edge.Edge.{Edge};
+ghost use Rattle.edges.specs.Graphs.{IsGraph};
 ghost use Rattle.circuits.specs.inner.Layers.{IsFarthest, IsLayer};
 ghost use Rattle.machine_data.specs.declared.limits.TheConstants.{MAX_INTERVAL};
 
-use graph::{Edge, Edges};
+use edges::{Edge, Edges};
 use machine_data::limits::MAX_STATEMENTS;
 
 /// The longest walk from an operation.

@@ -2,10 +2,10 @@
 
 ghost use Rattle.std.specs.Prelude.{◌≡◌, ◌≤◌, ◌+◌, ◌*◌, pos, ◌+ℤ◌, ◌-ℤ◌, ◌≤ℤ◌, ◌<ℤ◌, length};
 ghost use Rattle.std.specs.Bool.{OnTrue};
-ghost use Rattle.graph.specs.Walks.{delay_of, distance_of};
+ghost use Rattle.walks.specs.Walks.{delay_of, distance_of};
 ghost use Rattle.machine_data.specs.declared.limits.TheConstants.{MAX_INTERVAL};
 
-use graph::Edge;
+use edges::Edge;
 
 /// The sums of the delays and distances of edges.
 #[derive(Clone, Copy)]

@@ -1,14 +1,14 @@
 //! The longest walks from each operation at an interval, made longer in place until they stay or go round.
 
 ghost use Rattle.std.specs.Prelude.{◌≡◌, ◌+◌, ◌*◌, ◌<◌, ◌≤◌, length, false, IfOk};
-ghost use Rattle.graph.specs.Graphs.{IsGraph};
-ghost use Rattle.graph.specs.Walks.{FitsCircuits};
+ghost use Rattle.edges.specs.Graphs.{IsGraph};
+ghost use Rattle.walks.specs.Walks.{FitsCircuits};
 ghost use Rattle.circuits.specs.inner.Sweeps.{AreFirst, AreShort, IsSwept};
 ghost use Rattle.machine_data.specs.declared.limits.TheConstants.{MAX_INTERVAL};
 
 use crate::first_edges::{circuit_through, returning};
 use crate::layer::farthest;
-use graph::{Edge, Edges};
+use edges::{Edge, Edges};
 use machine_data::OutOfMemory;
 use machine_data::limits::MAX_STATEMENTS;
 use std::alloc::Global;

@@ -16,7 +16,7 @@ use std::alloc::Global;
 use std::marker::Model;
 
 /// The choices of loops, and how many intervals were tried for them when reports were gathered.
-#[derive(Debug, Drop)]
+#[derive(Drop)]
 pub struct Chosen {
     choices: Vec<Choice>,
     retried: u64,

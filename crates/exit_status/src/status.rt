@@ -15,7 +15,7 @@ use std::marker::Model;
 
 /// How a run of the program ends. Each has a number, by which the process exits, and those that tell
 /// of a fault have a line for the standard error.
-#[derive(Debug, Drop)]
+#[derive(Drop)]
 pub enum Status {
     /// The work is done and its output is written.
     Done,

@@ -4,7 +4,7 @@ ghost use Rattle.std.specs.Prelude.{◌≡◌};
 ghost use Rattle.exit_status.specs.Writing.{verdict_of_met};
 
 /// What a text that is written tells, which settles the status where it is written whole.
-#[derive(Clone, Copy, Debug, PartialEq, Eq)]
+#[derive(Clone, Copy, PartialEq, Eq)]
 pub enum Verdict {
     /// Every loop or problem is met, and no text has a fault.
     Fine,

@@ -2,9 +2,10 @@
 use Rattle.std.proofs.Common.{◌≡◌, ◌==◌, Bool, ℕ, ◌<◌, ◌≤◌, zero, suc, List, [], ◌∷◌, ◌++◌, length, get_or, refl, ap, ◌∙◌, subst, arith}
 use Rattle.std.specs.List.{All, Contains}
 use Rattle.std.proofs.lemmas.List.Elements.{All-contains}
-use Rattle.graph.specs.Dependences.{EdgeData, Dependence}
-use Rattle.graph.specs.Graphs.{GraphData}
-use Rattle.graph.specs.Walks.{IsWalk}
+use Rattle.edges.specs.Edges.{EdgeData}
+use Rattle.graph.specs.Dependences.{Dependence}
+use Rattle.edges.specs.Graphs.{GraphData}
+use Rattle.walks.specs.Walks.{IsWalk}
 use Rattle.circuits.proofs.Rounds.{once-short}
 use Rattle.graph_text.specs.CircuitLines.{circuit_line}
 use Rattle.graph_text.specs.Drawings.{IsCritical}

@@ -1,7 +1,7 @@
 -- The lines of a circuit that needs the recurrence-constrained lower bound.
 use Rattle.std.specs.Prelude.{◌≡◌, ℕ, pos, ◌-◌, ◌*◌, ◌≤ℤ◌, ◌<ℤ◌, List, ◌∷◌, ◌++◌}
-use Rattle.graph.specs.Dependences.{EdgeData}
-use Rattle.graph.specs.Walks.{IsRecurrenceBound, delay_of, distance_of}
+use Rattle.edges.specs.Edges.{EdgeData}
+use Rattle.walks.specs.Walks.{IsRecurrenceBound, delay_of, distance_of}
 use Rattle.graph_text.specs.CircuitLines.{circuit_line}
 use Rattle.graph_text.specs.Drawings.{IsCritical}
 use Rattle.graph_text.specs.Edges.{edge_line}

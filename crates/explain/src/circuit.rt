@@ -8,7 +8,7 @@ ghost use Rattle.graph_text.specs.Kinds.{IsOfKind, IsTimed};
 ghost use Rattle.lower_bounds.specs.Texts.{AreTexts};
 ghost use Rattle.explain.specs.CircuitTexts.{IsCircuitText};
 
-use graph::{Edge, Edges};
+use edges::{Edge, Edges};
 use graph_text::{critical_circuit, kind_of, push_circuit_line, push_edge};
 use loop_data::Loop;
 use loop_schedules::Prepared;

@@ -34,7 +34,7 @@ use unit_sets::{UnitSet, fullest_set};
 const PART: usize = 512;
 
 /// Why each loop of a file has its interval.
-#[derive(Debug, Drop)]
+#[derive(Drop)]
 pub struct Explained {
     pub text: Vec<u8>,
     /// Whether no loop is without a kernel.

@@ -2,8 +2,8 @@
 use Rattle.std.specs.Prelude.{◌≡◌, ℕ, ℤ, ◌==◌, ◌&&◌, int_le, Bool, codes, List, [], ◌∷◌, length, position, unwrap_or}
 use Rattle.serde_json.specs.Data.{Data, null, string, object, member, no_members}
 use Rattle.loop_data.specs.Loops.{LoopData}
-use Rattle.graph.specs.Dependences.{EdgeData}
-use Rattle.graph.specs.Walks.{delay_of, distance_of}
+use Rattle.edges.specs.Edges.{EdgeData}
+use Rattle.walks.specs.Walks.{delay_of, distance_of}
 use Rattle.graph_text.specs.declared.kind.Kind.{Kind}
 use Rattle.graph_text.specs.Kinds.{IsOfKind, kind_word}
 use Rattle.explain_json.specs.Parts.{array_of, count_value, integer_value}

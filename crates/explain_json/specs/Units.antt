@@ -4,7 +4,7 @@ use Rattle.std.specs.List.{flat_map, range_with_len, slice_index_or}
 use Rattle.serde_json.specs.Data.{Data, boolean, string, array, object, member, no_members}
 use Rattle.serde_json.specs.View.{items_of}
 use Rattle.machine_data.specs.Machines.{MachineData}
-use Rattle.graph.specs.Units.{use_of}
+use Rattle.unit_bound.specs.Units.{use_of}
 use Rattle.loop_schedules.specs.Problems.{ProblemData}
 use Rattle.resource_bound.specs.Choices.{rows_at}
 use Rattle.unit_sets.specs.declared.fullest.UnitSet.{UnitSet}

@@ -7,7 +7,7 @@ ghost use Rattle.explain_json.specs.inner.Objects.{circuit_object};
 ghost use Rattle.explain_json.specs.Parts.{array_of, count_value};
 
 use circuits::sums_of;
-use graph::{Edge, Edges};
+use edges::{Edge, Edges};
 use json_objects::{object_of, with, with_value};
 use machine_data::OutOfMemory;
 use serde_json::{Map, Value};

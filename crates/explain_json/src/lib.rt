@@ -6,7 +6,7 @@
 #![tactic(auto)]
 
 mod circuit;
-mod edges;
+mod dependences;
 mod kernels;
 mod loops;
 mod names;

@@ -4,20 +4,20 @@ ghost use Rattle.std.specs.Prelude.{◌≡◌, ◌≤◌, ◌++◌, ℕ, List, f
 ghost use Rattle.serde_json.specs.Data.{Data, array};
 ghost use Rattle.serde_json.specs.View.{items_of, members_view, view};
 ghost use Rattle.serde_json.specs.Written.{compact_text, has_float};
-ghost use Rattle.graph.specs.Walks.{AreHeights};
+ghost use Rattle.walks.specs.Walks.{AreHeights};
 ghost use Rattle.loop_schedules.specs.Problems.{mii_of};
 ghost use Rattle.told_choices.specs.Told.{IsTold};
 ghost use Rattle.explain_json.specs.Loops.{IsLoopJson, MembersData, failed_object, members_of, object_with};
 ghost use Rattle.explain_json.specs.inner.Seen.{loop_members};
 
 use crate::circuit::told_circuit;
-use crate::edges::told_edges;
+use crate::dependences::told_edges;
 use crate::kernels::told_kernel;
 use crate::operations::told_operations;
 use crate::tried::told_tried;
 use crate::units::{told_set, told_units};
 use candidates::Cause;
-use graph::{Edge, heights, longer_intervals_fit};
+use edges::Edge;
 use json_objects::{object_of, with, with_value};
 use loop_schedules::Prepared;
 use machine_data::{Machine, OutOfMemory};
@@ -25,6 +25,7 @@ use serde_json::{Map, ToValue, Value};
 use std::alloc::Global;
 use told_choices::{Chosen, Told};
 use unit_sets::UnitSet;
+use walks::{heights, longer_intervals_fit};
 
 /// The height of each operation at the least interval that is tried, in cycles.
 fn heights_of(alloc: Global, prepared: &Prepared) -> Result<Vec<u64>, OutOfMemory>

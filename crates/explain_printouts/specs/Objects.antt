@@ -1,7 +1,7 @@
 -- Why loops have the intervals that they have, as JSON objects.
 use Rattle.std.specs.Prelude.{◌≡◌, ℕ, List}
 use Rattle.machine_data.specs.Machines.{MachineData}
-use Rattle.graph.specs.Dependences.{EdgeData}
+use Rattle.edges.specs.Edges.{EdgeData}
 use Rattle.graph.specs.Units.{operations_of}
 use Rattle.graph_text.specs.Drawings.{IsCritical}
 use Rattle.resource_bound.specs.Choices.{AreUnitChoices}

@@ -5,9 +5,9 @@ use Rattle.std.specs.List.{All, Contains}
 use Rattle.std.proofs.lemmas.Bool.{cases_Bool, cases_eq, cond-true, cond-false, eqb-true}
 use Rattle.std.proofs.lemmas.Int.{ints}
 use Rattle.std.proofs.lemmas.List.Elements.{All-nil, All-cons, All-head, All-tail, All-push, All-weaker, All-same, All-filter, All-contains, All-contains_itself, filter_passes}
-use Rattle.graph.specs.Dependences.{EdgeData}
-use Rattle.graph.specs.Schedules.{KeepsEdge}
-use Rattle.graph.specs.Units.{greatest_of}
+use Rattle.edges.specs.Edges.{EdgeData}
+use Rattle.edges.specs.Schedules.{KeepsEdge}
+use Rattle.unit_bound.specs.Units.{greatest_of}
 use Rattle.loop_schedules.specs.Schedules.{ScheduleData, IsSchedule}
 use Rattle.overlap.specs.Lifetimes.{last_landing}
 use Rattle.figures.specs.Slacks.{MayBeLater, IsSlack}

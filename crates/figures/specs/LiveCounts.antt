@@ -1,6 +1,6 @@
 -- How many registers hold a value in each row of a schedule.
 use Rattle.std.specs.Prelude.{ℕ, List, length, map}
-use Rattle.graph.specs.Units.{greatest_of}
+use Rattle.unit_bound.specs.Units.{greatest_of}
 use Rattle.loop_schedules.specs.Schedules.{ScheduleData}
 use Rattle.overlap.specs.Lifetimes.{lifetimes_of}
 use Rattle.rotating.specs.Crowds.{crowd_in}

@@ -1,7 +1,7 @@
 -- By how many cycles operations could be issued later than they are.
 use Rattle.std.specs.Prelude.{◌≡◌, ℕ, ◌+◌, ◌<◌, ◌≤◌, List, length, slice_index, slice_set}
 use Rattle.std.specs.List.{All}
-use Rattle.graph.specs.Schedules.{KeepsEdge}
+use Rattle.edges.specs.Schedules.{KeepsEdge}
 use Rattle.loop_schedules.specs.Schedules.{ScheduleData}
 use Rattle.overlap.specs.Lifetimes.{last_landing}
 

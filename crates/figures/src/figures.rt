@@ -10,7 +10,7 @@ use rotating::{last_landing, least_registers};
 use std::alloc::Global;
 
 /// Figures of a schedule.
-#[derive(Debug, Drop)]
+#[derive(Drop)]
 pub struct Figures {
     /// How long one iteration takes, in cycles: from its beginning until its last result has landed.
     pub cycles: u64,

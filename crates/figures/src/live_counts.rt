@@ -1,7 +1,7 @@
 //! How many registers are live in each row.
 
 ghost use Rattle.std.specs.Prelude.{◌≡◌, IfOk};
-ghost use Rattle.graph.specs.Units.{greatest_of};
+ghost use Rattle.unit_bound.specs.Units.{greatest_of};
 ghost use Rattle.overlap.specs.Lifetimes.{lifetimes_of};
 ghost use Rattle.figures.specs.LiveCounts.{live_counts};
 

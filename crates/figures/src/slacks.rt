@@ -2,10 +2,10 @@
 
 ghost use Rattle.std.specs.Prelude.{◌≡◌, ◌<◌, ◌≤◌, ◌+◌, ◌*◌, pos, ◌+ℤ◌, [], length, slice_index, IfOk, vec_len, vec_capacity};
 ghost use Rattle.figures.specs.Slacks.{AreSlacks, IsSlack};
-ghost use Rattle.graph.specs.Schedules.{KeepsEdge};
+ghost use Rattle.edges.specs.Schedules.{KeepsEdge};
 ghost use Rattle.overlap.specs.Lifetimes.{last_landing};
 
-use graph::Edge;
+use edges::Edge;
 use loop_schedules::Schedule;
 use machine_data::OutOfMemory;
 use std::alloc::Global;

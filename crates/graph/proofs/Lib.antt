@@ -1,4 +1,1 @@
 pub mod finding
-pub mod grouping
-pub mod walks
-pub mod unit_bound

@@ -1,9 +1,8 @@
--- How the dependences of a loop are found, and what they promise.
+-- How the dependences of a loop are found, and what they promise; and what is known of its operations.
 pub mod Found
-pub mod Given
 pub mod GraphOf
 pub mod Instances
 pub mod Latencies
-pub mod Order
+pub mod Operations
 pub mod Promised
 pub mod SameArrays

@@ -1,5 +1,5 @@
 -- Dependences between the operations of a loop, said over the instances of its iterations.
-use Rattle.std.specs.Prelude.{◌≡◌, ◌⊎◌, ℕ, ℤ, pos, ◌+◌, ◌+ℤ◌, ◌-ℤ◌, ◌<◌, ◌<ℤ◌, List, map, Option, Some, None, slice_get, slice_index}
+use Rattle.std.specs.Prelude.{◌≡◌, ◌⊎◌, ℕ, ℤ, pos, ◌+◌, ◌+ℤ◌, ◌-ℤ◌, List, map, Option, Some, None, slice_get, slice_index}
 use Rattle.std.specs.List.{Contains}
 use Rattle.machine_data.specs.declared.opcode.Opcode.{Opcode}
 use Rattle.machine_data.specs.declared.opcode.Opcode.TheVariants.{Load, Store}
@@ -9,18 +9,7 @@ use Rattle.loop_data.specs.declared.language.statement.Place.{Place}
 use Rattle.loop_data.specs.declared.language.statement.Operand.TheVariants.{Value}
 pub use Rattle.loop_data.specs.Instances.{ComesFirst}
 use Rattle.loop_data.specs.Loops.{LoopData}
-use Rattle.graph.specs.declared.dependence.edge.Edge.{Edge}
-
--- an edge demands t(to) + ii * distance ≥ t(from) + delay of the issue times t, in cycles, at an interval ii
-abbrev pub EdgeData : Type 0
-EdgeData = Edge
-
--- one edge is listed before another: by its operations, then by distance, then by delay
-abbrev pub Precedes : EdgeData → EdgeData → Type 0
-Precedes a b = (a.from < b.from)
-    ⊎ ((a.from ≡ b.from) × ((a.to < b.to)
-    ⊎ ((a.to ≡ b.to) × ((a.distance < b.distance)
-    ⊎ ((a.distance ≡ b.distance) × (a.delay <ℤ b.delay))))))
+use Rattle.edges.specs.Edges.{EdgeData}
 
 -- the latency that a table gives, in cycles
 abbrev pub latency_in : Option OperationData → ℕ

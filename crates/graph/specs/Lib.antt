@@ -4,12 +4,7 @@ pub mod TablesAnswer
 pub mod Dependences
 pub mod Faults
 pub mod Graphs
-pub mod Kept
 pub mod Promises
-pub mod Rounds
-pub mod Schedules
 pub mod Subscripts
 pub mod Units
-pub mod Uses
-pub mod Walks
 pub mod inner

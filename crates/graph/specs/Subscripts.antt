@@ -8,7 +8,7 @@ use Rattle.loop_data.specs.declared.language.statement.Statement.{Statement}
 use Rattle.loop_data.specs.declared.language.statement.Place.{Place}
 use Rattle.loop_data.specs.declared.language.statement.Operand.{Operand}
 use Rattle.loop_data.specs.declared.language.statement.Operand.TheVariants.{Constant, Parameter, Value}
-use Rattle.graph.specs.Dependences.{EdgeData}
+use Rattle.edges.specs.Edges.{EdgeData}
 
 -- latencies are 1 to 64 cycles
 abbrev pub AreLatencies : List ℕ → Type 0

@@ -2,5 +2,3 @@
 
 pub(crate) mod collect;
 pub(crate) mod dependences;
-pub(crate) mod edge;
-pub(crate) mod given;

@@ -1,7 +1,7 @@
 -- The ends of the lines of edges, in graphs for Graphviz that tell of a schedule.
 use Rattle.std.specs.Prelude.{◌↔◌, ℕ, zero, suc, codes, Bool, IsTrue, if◌then◌else◌, List, [], ◌++◌}
 use Rattle.std.specs.List.{Contains}
-use Rattle.graph.specs.Dependences.{EdgeData}
+use Rattle.edges.specs.Edges.{EdgeData}
 use Rattle.graph_text.specs.Dot.{at_text}
 use Rattle.writing.specs.Words.{told_signed}
 

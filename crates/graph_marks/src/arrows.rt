@@ -4,7 +4,7 @@ ghost use Rattle.std.specs.Prelude.{◌≡◌, ◌++◌, OnOk};
 ghost use Rattle.graph_text.specs.Dot.{at_text};
 ghost use Rattle.graph_marks.specs.Arrows.{arrow_end, carried_text, circuit_text};
 
-use graph::Edge;
+use edges::Edge;
 use machine_data::OutOfMemory;
 use writing::{Text, push_signed, push_told};
 

@@ -1,8 +1,8 @@
 -- The line of a circuit's sums.
 use Rattle.std.proofs.Common.{◌≡◌, ℕ, ◌<◌, List, [], ◌∷◌, length, ap, ◌∙◌, arith}
 use Rattle.std.specs.Prelude.{ℤ}
-use Rattle.graph.specs.Dependences.{EdgeData}
-use Rattle.graph.specs.Walks.{delay_of, distance_of}
+use Rattle.edges.specs.Edges.{EdgeData}
+use Rattle.walks.specs.Walks.{delay_of, distance_of}
 use Rattle.graph_text.specs.CircuitLines.{circuit_line, sums_line}
 
 pub line-of_sums : (circuit : List EdgeData) (bound distance : ℕ) (delay : ℤ) → 0 < length circuit → delay ≡ delay_of circuit → distance ≡ distance_of circuit

@@ -3,8 +3,10 @@ use Rattle.std.proofs.Common.{◌≡◌, ℕ, ◌<◌, List, length, get_or, sym
 use Rattle.std.specs.List.{All}
 use Rattle.machine_data.specs.Machines.{MachineData}
 use Rattle.loop_data.specs.Loops.{LoopData}
-use Rattle.graph.specs.Dependences.{EdgeData, Dependence, latencies_of}
-use Rattle.graph.specs.Graphs.{GraphData, IsGraph, IsGraphOf}
+use Rattle.edges.specs.Edges.{EdgeData}
+use Rattle.graph.specs.Dependences.{Dependence, latencies_of}
+use Rattle.edges.specs.Graphs.{GraphData, IsGraph}
+use Rattle.graph.specs.Graphs.{IsGraphOf}
 use Rattle.graph.proofs.finding.Latencies.{length-latencies}
 use Rattle.graph_text.specs.Kinds.{IsTimed}
 

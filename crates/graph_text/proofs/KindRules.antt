@@ -10,7 +10,8 @@ use Rattle.machine_data.specs.declared.opcode.Opcode.TheVariants.{Load, Store}
 use Rattle.loop_data.specs.declared.language.statement.Operand.TheVariants as operand
 use Rattle.loop_data.specs.declared.language.statement.Statement.{Statement}
 use Rattle.loop_data.specs.Loops.{LoopData, IsLoop, GivesValue, HasShape, MayRead}
-use Rattle.graph.specs.Dependences.{EdgeData, Dependence, HasOpcode, Uses, value_flow, memory_flow, anti, output}
+use Rattle.edges.specs.Edges.{EdgeData}
+use Rattle.graph.specs.Dependences.{Dependence, HasOpcode, Uses, value_flow, memory_flow, anti, output}
 use Rattle.graph_text.specs.declared.kind.Kind.{Kind}
 use Rattle.graph_text.specs.declared.kind.Kind.TheVariants.{Value, Memory, Anti, Output}
 use Rattle.graph_text.specs.Kinds.{IsOfKind, IsTimed, KindsExclude}

@@ -1,7 +1,7 @@
 -- The line of a circuit.
 use Rattle.std.specs.Prelude.{ℕ, ℤ, codes, List, [], ◌∷◌, ◌++◌}
-use Rattle.graph.specs.Dependences.{EdgeData}
-use Rattle.graph.specs.Walks.{delay_of, distance_of}
+use Rattle.edges.specs.Edges.{EdgeData}
+use Rattle.walks.specs.Walks.{delay_of, distance_of}
 use Rattle.writing.specs.Words.{told}
 use Rattle.graph_text.specs.Edges.{sums_told}
 

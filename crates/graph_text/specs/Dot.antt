@@ -2,8 +2,8 @@
 use Rattle.std.specs.Prelude.{◌≡◌, ◌↔◌, ℕ, zero, suc, codes, Bool, IsTrue, if◌then◌else◌, List, [], ◌++◌}
 use Rattle.std.specs.List.{Contains, flat_map}
 use Rattle.loop_data.specs.Loops.{LoopData}
-use Rattle.graph.specs.Dependences.{EdgeData}
-use Rattle.graph.specs.Graphs.{GraphData}
+use Rattle.edges.specs.Edges.{EdgeData}
+use Rattle.edges.specs.Graphs.{GraphData}
 use Rattle.graph_text.specs.declared.drawing.dot.Stroke.{Stroke}
 use Rattle.lower_bounds.specs.declared.measuring.LowerBounds.{LowerBounds}
 use Rattle.lower_bounds.specs.Bounds.{bounds_told}

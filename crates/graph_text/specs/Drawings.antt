@@ -2,9 +2,9 @@
 use Rattle.std.specs.Prelude.{ℕ, ◌-◌, List, [], ◌∷◌}
 use Rattle.machine_data.specs.Machines.{MachineData}
 use Rattle.loop_data.specs.Loops.{LoopData}
-use Rattle.graph.specs.Dependences.{EdgeData}
-use Rattle.graph.specs.Graphs.{GraphData}
-use Rattle.graph.specs.Walks.{FitsCircuits}
+use Rattle.edges.specs.Edges.{EdgeData}
+use Rattle.edges.specs.Graphs.{GraphData}
+use Rattle.walks.specs.Walks.{FitsCircuits}
 use Rattle.circuits.specs.Circuits.{IsCircuitAbove}
 use Rattle.lower_bounds.specs.declared.measuring.LowerBounds.{LowerBounds}
 use Rattle.lower_bounds.specs.Bounds.{IsMeasured}

@@ -2,7 +2,8 @@
 use Rattle.std.specs.Prelude.{◌≡◌, ℕ, pos, ◌+ℤ◌, ◌-ℤ◌, List, codes, length, slice_index}
 use Rattle.machine_data.specs.declared.opcode.Opcode.TheVariants.{Load, Store}
 use Rattle.loop_data.specs.Loops.{LoopData, IsLoop}
-use Rattle.graph.specs.Dependences.{EdgeData, Dependence, HasOpcode, MeetInMemory, Uses}
+use Rattle.edges.specs.Edges.{EdgeData}
+use Rattle.graph.specs.Dependences.{Dependence, HasOpcode, MeetInMemory, Uses}
 use Rattle.graph.specs.Subscripts.{AreLatencies}
 use Rattle.graph_text.specs.declared.kind.Kind.{Kind}
 use Rattle.graph_text.specs.declared.kind.Kind.TheVariants.{Value, Memory, Anti, Output}

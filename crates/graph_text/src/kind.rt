@@ -3,12 +3,12 @@
 ghost use Rattle.std.specs.Prelude.{◌≡◌, ℕ, List};
 ghost use Rattle.graph_text.specs.Kinds.{IsOfKind, IsTimed, kind_word};
 
-use graph::Edge;
+use edges::Edge;
 use loop_data::Loop;
 use machine_data::Opcode;
 
 /// Why an operation depends on another one.
-#[derive(Clone, Copy, Debug, PartialEq, Eq)]
+#[derive(Clone, Copy, PartialEq, Eq)]
 pub enum Kind {
     /// It uses the other one's value.
     Value,

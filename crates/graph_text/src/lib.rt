@@ -16,6 +16,6 @@ pub use drawing::drawings::{critical_circuit, dot_graphs};
 pub use kind::{Kind, kind_of};
 pub use laws::{dependences_have_kinds, kinds_are_dependences, kinds_exclude};
 pub use listing::circuit::push_circuit_line;
-pub use listing::edges::{edges_lines, push_edge};
+pub use listing::dependences::{edges_lines, push_edge};
 pub use listing::sums::push_sums;
 pub use names::push_name;

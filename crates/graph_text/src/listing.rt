@@ -1,5 +1,5 @@
 //! The dependences of loops, line by line.
 
 pub(crate) mod circuit;
-pub(crate) mod edges;
+pub(crate) mod dependences;
 pub(crate) mod sums;

@@ -1,6 +1,6 @@
 -- Laws of attempts.
 use Rattle.std.specs.Prelude.{◌≡◌, ℕ, ◌≤◌, List}
-use Rattle.graph.specs.Schedules.{IsLawfulSchedule}
+use Rattle.edges.specs.Schedules.{IsLawfulSchedule}
 use Rattle.modulo.specs.Attempts.{EndsPlaced}
 use Rattle.loop_schedules.specs.Problems.{ProblemData, IsProblem, mii_of, without_loop}
 use Rattle.ims.specs.declared.outcome.attempts.Try.{Try}

@@ -12,14 +12,14 @@ use machine_lint::{MachineLint, lint_machine};
 use std::alloc::{AllocError, Global};
 
 /// A text with the path by which its faults are told.
-#[derive(Clone, Copy, Debug)]
+#[derive(Clone, Copy)]
 pub struct Named<'a> {
     pub path: &'a str,
     pub text: &'a [u8],
 }
 
 /// The lines of faults, with whether there are any.
-#[derive(Debug, Drop)]
+#[derive(Drop)]
 pub struct LintText {
     /// The lines of the faults of the machine text, and then those of the loop text.
     pub text: Vec<u8>,

@@ -2,7 +2,6 @@
 
 ghost use Rattle.std.specs.Prelude.{◌≡◌};
 
-use std::fmt;
 use std::marker::Model;
 
 /// A list. Contracts see the items.
@@ -40,15 +39,5 @@ impl<T> ListOf<T> {
     {
         let Self { items } = self;
         items
-    }
-}
-
-impl<T: fmt::Debug> fmt::Debug for ListOf<T> {
-    ghost use Rattle.std.specs.Fmt.{debug_list};
-
-    ghost debug_output = { debug_list T.debug_output };
-
-    fn fmt<W: fmt::Write>(&self, f: &mut fmt::Formatter<W>) -> fmt::Result {
-        fmt::Debug::fmt(self.as_slice(), f)
     }
 }

@@ -3,7 +3,6 @@
 ghost use Rattle.std.specs.Prelude.{◌≡◌};
 
 use smallvec::SmallVec;
-use std::fmt;
 use std::marker::Model;
 
 /// A short list: up to three items take no memory. Contracts see the items.
@@ -41,15 +40,5 @@ impl<T> ShortListOf<T> {
     {
         let Self { items } = self;
         items
-    }
-}
-
-impl<T: fmt::Debug> fmt::Debug for ShortListOf<T> {
-    ghost use Rattle.std.specs.Fmt.{debug_list};
-
-    ghost debug_output = { debug_list T.debug_output };
-
-    fn fmt<W: fmt::Write>(&self, f: &mut fmt::Formatter<W>) -> fmt::Result {
-        fmt::Debug::fmt(self.as_slice(), f)
     }
 }

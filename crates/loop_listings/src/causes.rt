@@ -7,7 +7,7 @@ ghost use Rattle.loop_listings.specs.Texts.{cause_word};
 use modulo::Culprit;
 
 /// Why an interval gives no kernel, in the order in which the causes are tested.
-#[derive(Clone, Copy, Debug, PartialEq, Eq)]
+#[derive(Clone, Copy, PartialEq, Eq)]
 pub enum Cause {
     /// All alternatives of some operation collide with themselves.
     Table,

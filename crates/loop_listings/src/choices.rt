@@ -7,7 +7,7 @@ use crate::causes::Cause;
 use kernel::Kernel;
 
 /// What is chosen for a loop.
-#[derive(Debug, Drop)]
+#[derive(Drop)]
 pub enum Choice {
     /// The least interval that gives a kernel, in cycles, and that kernel.
     Met(u64, Kernel),

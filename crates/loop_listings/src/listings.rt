@@ -11,7 +11,7 @@ use std::alloc::Global;
 use std::marker::Model;
 
 /// What is told of a loop.
-#[derive(Debug, Drop)]
+#[derive(Drop)]
 pub struct Row {
     /// The loop's name.
     pub name: Name,
@@ -28,7 +28,7 @@ pub struct Row {
 }
 
 /// What is told of each loop of a file, in order. Contracts see the ceiling and the rows.
-#[derive(Debug, Drop)]
+#[derive(Drop)]
 pub struct Listing {
     ceiling: u64,
     rows: Vec<Row>,

@@ -7,7 +7,7 @@ use std::marker::Model;
 
 /// How the intervals of loops are cut into pieces, which workers draw by their numbers: the first piece of
 /// each loop, in order, then the second of each, and so on. Contracts see the three numbers.
-#[derive(Debug, Drop)]
+#[derive(Drop)]
 pub struct Pieces {
     loops: usize,
     ceiling: u64,
@@ -16,7 +16,7 @@ pub struct Pieces {
 }
 
 /// A piece. Its intervals are counted from the loop's least one, which is 0, in cycles.
-#[derive(Clone, Copy, Debug, PartialEq, Eq)]
+#[derive(Clone, Copy, PartialEq, Eq)]
 pub struct Piece {
     /// The loop, by its number from 0.
     pub loop_number: usize,

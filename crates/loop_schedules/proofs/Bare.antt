@@ -1,6 +1,6 @@
 -- A schedule of a problem without its loop is one of the loop.
 use Rattle.std.proofs.Common.{◌≡◌, subst}
-use Rattle.graph.specs.Schedules.{IsLawfulSchedule}
+use Rattle.edges.specs.Schedules.{IsLawfulSchedule}
 use Rattle.schedules.specs.Problems as problems
 use Rattle.schedules.specs.Schedules as schedules
 use Rattle.loop_schedules.specs.Problems.{ProblemData, IsProblem, without_loop}

@@ -3,7 +3,7 @@ use Rattle.std.proofs.Common.{sym, subst}
 use Rattle.std.specs.List.{All}
 use Rattle.std.proofs.lemmas.List.Elements.{All-contains}
 use Rattle.graph.specs.Dependences.{Dependence, latencies_of}
-use Rattle.graph.specs.Schedules.{KeepsEdge}
+use Rattle.edges.specs.Schedules.{KeepsEdge}
 use Rattle.schedules.proofs.lawfulness.Stages as stages
 use Rattle.loop_schedules.specs.Promises.{SchedulesKeepDependences, ProblemsHaveGraphs, StagesAreFew}
 use Rattle.loop_schedules.proofs.Bare.{bare, bare-is}

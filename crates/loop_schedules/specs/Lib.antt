@@ -1,4 +1,4 @@
-pub use Rattle.graph.specs.Graphs
+pub use Rattle.edges.specs.Graphs
 pub use Rattle.mrt.specs.Placements
 pub mod Problems
 pub mod Promises

@@ -5,8 +5,9 @@ use Rattle.std.specs.List.{All, Contains}
 use Rattle.machine_data.specs.declared.alternative.Row.{Row}
 use Rattle.machine_data.specs.Machines.{MachineData}
 use Rattle.loop_data.specs.Loops.{LoopData, IsLoop}
-use Rattle.graph.specs.Dependences.{EdgeData, Dependence, latencies_of}
-use Rattle.graph.specs.Graphs.{GraphData}
+use Rattle.edges.specs.Edges.{EdgeData}
+use Rattle.graph.specs.Dependences.{Dependence, latencies_of}
+use Rattle.edges.specs.Graphs.{GraphData}
 use Rattle.graph.specs.Units.{operations_of}
 use Rattle.schedules.specs.Problems as schedules
 

@@ -7,7 +7,8 @@ ghost use Rattle.loop_schedules.specs.Problems.{IsProblem, IsProblemOf, mii_of, 
 ghost use Rattle.machine_data.specs.declared.limits.TheConstants.{MAX_CEILING, MAX_INTERVAL, MAX_RATIO};
 
 use crate::loop_problems::loop_problem;
-use graph::{Edges, GraphFault};
+use edges::Edges;
+use graph::GraphFault;
 use loop_data::Loop;
 use machine_data::{Alternatives, Machine, OutOfMemory};
 use mrt::ModuloTable;

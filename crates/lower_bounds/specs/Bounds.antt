@@ -2,9 +2,11 @@
 use Rattle.std.specs.Prelude.{ℕ, codes, max, List, ◌++◌, length}
 use Rattle.machine_data.specs.Machines.{MachineData}
 use Rattle.loop_data.specs.Loops.{LoopData}
-use Rattle.graph.specs.Graphs.{GraphData, IsGraphOf}
-use Rattle.graph.specs.Units.{IsUnitBound, operations_of}
-use Rattle.graph.specs.Walks.{IsRecurrenceBound}
+use Rattle.edges.specs.Graphs.{GraphData}
+use Rattle.graph.specs.Graphs.{IsGraphOf}
+use Rattle.unit_bound.specs.Units.{IsUnitBound}
+use Rattle.graph.specs.Units.{operations_of}
+use Rattle.walks.specs.Walks.{IsRecurrenceBound}
 use Rattle.lower_bounds.specs.Texts.{AreTexts}
 use Rattle.lower_bounds.specs.declared.measuring.LowerBounds.{LowerBounds}
 use Rattle.writing.specs.Words.{told}

@@ -8,10 +8,10 @@ ghost use Rattle.lower_bounds.specs.Faults.{TextAnswers};
 
 use crate::fault::TextFault;
 use crate::measuring::{LowerBounds, measure};
-use graph::mii;
 use loop_data::Loop;
 use machine_data::{Machine, OutOfMemory};
 use std::alloc::Global;
+use walks::mii;
 use writing::{Text, push_both, push_told};
 
 /// A guess of how many bytes a line takes, for the first reservation.

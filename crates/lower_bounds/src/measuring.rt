@@ -6,10 +6,12 @@ ghost use Rattle.lower_bounds.specs.Faults.{TextAnswers, lacking_in};
 ghost use Rattle.lower_bounds.specs.declared.measuring.Measured.{Measured};
 
 use crate::fault::{TextFault, fault_of};
-use graph::{Edges, edges, rec_mii, res_mii};
+use edges::Edges;
+use graph::{edges, res_mii};
 use loop_data::Loop;
 use machine_data::Machine;
 use std::alloc::Global;
+use walks::rec_mii;
 
 /// The lower bounds of a loop's initiation interval, in cycles.
 #[derive(Clone, Copy)]

@@ -11,7 +11,7 @@ use std::sync::ArcSlice;
 
 /// A row of a reservation table: the operation holds the unit in the cycle that comes `offset`
 /// cycles after its issue.
-#[derive(Clone, Copy, Debug, Default, PartialEq, Eq)]
+#[derive(Clone, Copy, Default, PartialEq, Eq)]
 pub struct Row {
     /// The unit's number on its machine, from 0; below 64.
     pub unit: u8,

@@ -1,11 +1,11 @@
 //! The operations of the loop language.
 
-ghost use Rattle.std.specs.Prelude.{◌≡◌, ◌<◌};
-ghost use Rattle.machine_data.specs.Opcodes.{word_of, opcode_number, opcode_named};
+ghost use Rattle.std.specs.Prelude.{◌≡◌, ◌<◌, find};
+ghost use Rattle.machine_data.specs.Opcodes.{word_of, opcode_number, opcode_named, same_word};
 
 /// What a statement of a loop does. The order is that of the words in the documents, and of
 /// [`Opcode::number`].
-#[derive(Clone, Copy, Debug, PartialEq, Eq, PartialOrd, Ord)]
+#[derive(Clone, Copy, Debug, PartialEq, Eq)]
 pub enum Opcode {
     Load,
     Store,
@@ -59,21 +59,25 @@ impl Opcode {
     pub fn named(word: &[u8]) -> Option<Opcode>
         ensures { result ≡ opcode_named word.now }
     {
+        // By the first letter, so that few words are compared.
         match word {
-            b"load" => Some(Opcode::Load),
-            b"store" => Some(Opcode::Store),
-            b"add" => Some(Opcode::Add),
-            b"sub" => Some(Opcode::Sub),
-            b"mul" => Some(Opcode::Mul),
-            b"and" => Some(Opcode::And),
-            b"or" => Some(Opcode::Or),
-            b"xor" => Some(Opcode::Xor),
-            b"min" => Some(Opcode::Min),
-            b"max" => Some(Opcode::Max),
-            b"lt" => Some(Opcode::Lt),
-            b"sel" => Some(Opcode::Sel),
-            b"mov" => Some(Opcode::Mov),
-            _ => None,
+            [b'a', ..] => among(&[Opcode::Add, Opcode::And], word),
+            [b'l', ..] => among(&[Opcode::Load, Opcode::Lt], word),
+            [b'm', ..] => among(&[Opcode::Mul, Opcode::Min, Opcode::Max, Opcode::Mov], word),
+            [b's', ..] => among(&[Opcode::Store, Opcode::Sub, Opcode::Sel], word),
+            _ => among(&[Opcode::Or, Opcode::Xor], word),
         }
     }
+}
+
+/// The first of some opcodes that has this word, if one has.
+fn among(opcodes: &[Opcode], word: &[u8]) -> Option<Opcode>
+    ensures { result ≡ find (λ opcode. same_word (word_of opcode) word.now) opcodes.now }
+{
+    for opcode in opcodes {
+        if opcode.word().as_bytes() == word {
+            return Some(*opcode);
+        }
+    }
+    None
 }

@@ -17,7 +17,7 @@ use machine_data::{Machine, Opcode, OutOfMemory, Row};
 use std::alloc::Global;
 
 /// What is changed of a machine.
-#[derive(Clone, Copy, Debug, PartialEq, Eq)]
+#[derive(Clone, Copy, PartialEq, Eq)]
 pub enum Variant {
     /// The machine has the unit of this number twice.
     Doubled(u8),

@@ -4,7 +4,6 @@ ghost use Rattle.std.specs.Prelude.{◌≡◌, None, length, replicate};
 
 use crate::answers::{Answer, tell, tell_not_begun};
 use candidates::{Pieces, Settings};
-use graph::mii;
 use kernel::Kernel;
 use loop_schedules::{Prepared, Schedule};
 use loops::apply;
@@ -12,6 +11,7 @@ use machine::{Alternatives, Opcode};
 use mrt::{MaskTable, ModuloTable, OwnerTable};
 use rotating::Allotment;
 use std::io;
+use walks::mii;
 
 /// Tells what calls on a table of owners and on one of words come to.
 pub fn try_tables(rt: &(impl AllocGlobal + Print), prepared: &Prepared) -> io::Result<()> {

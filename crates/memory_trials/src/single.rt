@@ -1,11 +1,11 @@
 //! Calls on one loop, a running sum.
 
-ghost use Rattle.graph.specs.Walks.{FitsCircuits};
+ghost use Rattle.walks.specs.Walks.{FitsCircuits};
 ghost use Rattle.rotating.specs.Allotments.{Suits};
 
 use crate::answers::{Answer, tell, tell_not_begun};
 use crate::bare::try_checks;
-use graph::{Edges, feasible, heights};
+use edges::Edges;
 use ims::{Try, attempt};
 use kernel::Kernel;
 use kernel_runs::{simulate, simulate_from};
@@ -15,6 +15,7 @@ use mrt::{MaskTable, ModuloTable, OwnerTable};
 use rotating::{Allotment, allot, emit};
 use std::alloc::Global;
 use std::io;
+use walks::{feasible, heights};
 use worked_texts::ACC;
 
 /// Tells what calls on the loop come to.

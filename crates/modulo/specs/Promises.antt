@@ -1,6 +1,6 @@
 -- Laws of attempts.
 use Rattle.std.specs.Prelude.{◌≡◌, ℕ, ◌≤◌, List}
-use Rattle.graph.specs.Schedules.{IsLawfulSchedule}
+use Rattle.edges.specs.Schedules.{IsLawfulSchedule}
 use Rattle.schedules.specs.Problems.{ProblemData, IsProblem, mii_of}
 use Rattle.modulo.specs.declared.outcome.attempts.Try.{Try}
 use Rattle.modulo.specs.Attempts.{EndsPlaced, AnswersAttempt}

@@ -4,8 +4,8 @@ use Rattle.std.specs.List.{Contains, slice_index_or}
 use Rattle.std.specs.Option.{option_flatten}
 use Rattle.machine_data.specs.declared.alternative.Row.{Row}
 use Rattle.machine_data.specs.Alternative.{collides}
-use Rattle.graph.specs.Dependences.{EdgeData}
-use Rattle.graph.specs.Walks.{AreHeights}
+use Rattle.edges.specs.Edges.{EdgeData}
+use Rattle.walks.specs.Walks.{AreHeights}
 use Rattle.mrt.specs.Placements.{Placements, Placement, placement_of, alternatives_of, rows_of, IsMetBy, IsFirstSlot}
 use Rattle.schedules.specs.Problems.{ProblemData}
 

@@ -1,6 +1,6 @@
 -- The circuit that the recurrence-constrained bound is due to.
 use Rattle.std.proofs.Common.{◌-◌, ◌≤◌, List, length, arith}
-use Rattle.graph.specs.Dependences.{EdgeData}
+use Rattle.edges.specs.Edges.{EdgeData}
 use Rattle.circuits.specs.Circuits.{IsCircuitAbove}
 use Rattle.circuits.proofs.Rounds.{once-short}
 use Rattle.schedules.specs.Problems.{ProblemData as SchedulingData, IsProblem}

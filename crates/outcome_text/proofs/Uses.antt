@@ -6,8 +6,8 @@ use Rattle.std.proofs.lemmas.Grind.{get_or-set_at}
 use Rattle.std.proofs.lemmas.List.{get_or-set_other, length-set}
 use Rattle.std.proofs.lemmas.List.Sums.{count_by_more_no, count_by_more_yes}
 use Rattle.machine_data.specs.declared.alternative.Row.{Row}
-use Rattle.graph.specs.Units.{chosen_rows, use_of}
-use Rattle.graph.proofs.unit_bound.Tally.{use_of-append}
+use Rattle.unit_bound.specs.Units.{chosen_rows, use_of}
+use Rattle.unit_bound.proofs.Tally.{use_of-append}
 use Rattle.resource_bound.specs.Choices.{rows_at}
 use Rattle.resource_bound.proofs.Chosen.{rows-more}
 use Rattle.outcome_text.specs.inner.Counts.{IsCounted}

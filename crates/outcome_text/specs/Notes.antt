@@ -2,9 +2,9 @@
 use Rattle.std.specs.Prelude.{◌≡◌, ℕ, ℤ, ◌-◌, ◌<◌, ◌≤◌, ◌==◌, codes, List, [], ◌∷◌, ◌++◌, filter, map}
 use Rattle.std.specs.List.{flat_map, range_with_len}
 use Rattle.machine_data.specs.declared.alternative.Row.{Row}
-use Rattle.graph.specs.Dependences.{EdgeData}
-use Rattle.graph.specs.Units.{chosen_rows, use_of}
-use Rattle.graph.specs.Walks.{delay_of, distance_of}
+use Rattle.edges.specs.Edges.{EdgeData}
+use Rattle.unit_bound.specs.Units.{chosen_rows, use_of}
+use Rattle.walks.specs.Walks.{delay_of, distance_of}
 use Rattle.circuits.specs.Circuits.{IsCircuitAbove}
 use Rattle.schedules.specs.Problems.{ProblemData as SchedulingData}
 use Rattle.resource_bound.specs.Choices.{AreUnitChoices}

@@ -2,12 +2,12 @@
 
 ghost use Rattle.std.specs.Prelude.{◌≡◌, ◌≤◌, ◌++◌, List, length, IfOk, OnOk};
 ghost use Rattle.machine_data.specs.declared.limits.TheConstants.{MAX_STATEMENTS};
-ghost use Rattle.graph.specs.Dependences.{EdgeData};
+ghost use Rattle.edges.specs.Edges.{EdgeData};
 ghost use Rattle.outcome_text.specs.Notes.{IsCircuitOf, circuit_line, stops_of, sums_text};
 
 use crate::listed::push_listed;
 use circuits::{Sums, circuit_above, sums_of};
-use graph::Edge;
+use edges::Edge;
 use machine_data::OutOfMemory;
 use problems::{Draft, Problem};
 use std::alloc::Global;

@@ -5,7 +5,7 @@ ghost use Rattle.std.specs.List.{All};
 ghost use Rattle.machine_data.specs.declared.alternative.Row.{Row};
 ghost use Rattle.machine_data.specs.declared.limits.TheConstants.{MAX_ROWS, MAX_UNITS};
 ghost use Rattle.machine_data.specs.Alternative.{AreAlternatives};
-ghost use Rattle.graph.specs.Units.{chosen_rows, use_of};
+ghost use Rattle.unit_bound.specs.Units.{chosen_rows, use_of};
 ghost use Rattle.resource_bound.specs.Choices.{rows_at};
 ghost use Rattle.outcome_text.specs.Notes.{AreFullest, full_line, units_with};
 ghost use Rattle.outcome_text.specs.inner.Counts.{AreUses, IsCounted};

@@ -16,7 +16,7 @@ use Rattle.loop_data.specs.declared.language.statement.Operand.TheVariants as op
 use Rattle.loop_data.specs.declared.language.lists.Array.{Array}
 use Rattle.loop_data.specs.Loops.{HasShape, MayRead, IsStatement, GivesValue, HasInitial}
 use Rattle.loop_data.specs.Run.{initial_of}
-use Rattle.graph.specs.Units.{greatest_of}
+use Rattle.unit_bound.specs.Units.{greatest_of}
 use Rattle.kernel.specs.declared.kernels.operation.Operation.{Operation}
 use Rattle.kernel.specs.declared.kernels.operation.Address.{Address}
 use Rattle.kernel.specs.declared.kernels.parts.Preload.{Preload}

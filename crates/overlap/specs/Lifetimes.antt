@@ -5,7 +5,7 @@ use Rattle.loop_data.specs.declared.language.statement.Operand.{Operand}
 use Rattle.loop_data.specs.declared.language.statement.Operand.TheVariants.{Value}
 use Rattle.loop_data.specs.declared.language.statement.Statement.{Statement}
 use Rattle.loop_data.specs.Loops.{LoopData}
-use Rattle.graph.specs.Units.{greatest_of}
+use Rattle.unit_bound.specs.Units.{greatest_of}
 use Rattle.registers.specs.declared.lifetime.Lifetime.{Lifetime}
 pub use Rattle.registers.specs.Lifetimes.{IsLiveIn}
 use Rattle.loop_schedules.specs.Schedules.{ScheduleData, stages_of}

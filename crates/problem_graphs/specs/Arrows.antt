@@ -1,7 +1,7 @@
 -- The arrows of a problem, in the language of Graphviz.
 use Rattle.std.specs.Prelude.{◌↔◌, ℕ, codes, Bool, IsTrue, List, ◌++◌}
 use Rattle.std.specs.List.{Contains}
-use Rattle.graph.specs.Dependences.{EdgeData}
+use Rattle.edges.specs.Edges.{EdgeData}
 use Rattle.graph_marks.specs.Arrows as marks
 use Rattle.graph_text.specs.Dot.{arrow_end, arrow_start}
 use Rattle.lower_bounds.specs.Texts.{AreTexts}

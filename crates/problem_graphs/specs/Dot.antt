@@ -1,7 +1,7 @@
 -- The operations of a problem and what they wait for, as a graph in the language of Graphviz.
 use Rattle.std.specs.Prelude.{◌≡◌, ℕ, codes, List, ◌++◌, length}
 use Rattle.std.specs.List.{flat_map, range_with_len}
-use Rattle.graph.specs.Dependences.{EdgeData}
+use Rattle.edges.specs.Edges.{EdgeData}
 use Rattle.graph_marks.specs.Labels.{nodes_plain}
 use Rattle.graph_text.specs.Drawings.{IsCritical}
 use Rattle.schedules.specs.Problems.{ProblemData as SchedulingData}

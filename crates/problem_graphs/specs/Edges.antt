@@ -1,8 +1,8 @@
 -- The text of the edges of a problem.
 use Rattle.std.specs.Prelude.{◌≡◌, ℕ, codes, List, ◌++◌, length, slice_index}
 use Rattle.std.specs.List.{flat_map, range_with_len}
-use Rattle.graph.specs.Dependences.{EdgeData}
-use Rattle.graph.specs.Walks.{AreHeights}
+use Rattle.edges.specs.Edges.{EdgeData}
+use Rattle.walks.specs.Walks.{AreHeights}
 use Rattle.graph_text.specs.Edges.{sums_told}
 use Rattle.schedules.specs.Problems.{mii_of}
 use Rattle.registers.specs.declared.value.Read.{Read}

@@ -1,7 +1,7 @@
 -- The graph of a problem with its solution, or with why it has none.
 use Rattle.std.specs.Prelude.{◌≡◌, ℕ, codes, List, ◌++◌, length, slice_index}
 use Rattle.std.specs.List.{flat_map, range_with_len}
-use Rattle.graph.specs.Dependences.{EdgeData}
+use Rattle.edges.specs.Edges.{EdgeData}
 use Rattle.graph_marks.specs.Labels.{failed_label, met_label, nodes_filled, nodes_plain}
 use Rattle.graph_marks.specs.Nodes.{place_text}
 use Rattle.graph_text.specs.Drawings.{IsCritical}

@@ -6,7 +6,7 @@ ghost use Rattle.problem_graphs.specs.Arrows.{AreOrders, AreReads, IsOfCircuit, 
 
 use crate::demands::{order_edge, read_edge};
 use crate::whys::{Why, push_why_label};
-use graph::Edge;
+use edges::Edge;
 use graph_text::push_arrow_start;
 use machine_data::OutOfMemory;
 use problems::Draft;

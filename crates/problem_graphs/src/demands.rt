@@ -4,7 +4,7 @@ ghost use Rattle.std.specs.Prelude.{◌≡◌, ◌≤◌};
 ghost use Rattle.machine_data.specs.declared.limits.TheConstants.{MAX_STATEMENTS};
 ghost use Rattle.problems.specs.Drafts.{IsOrder, IsRead, IsWellFormed, order_edge, read_edge};
 
-use graph::Edge;
+use edges::Edge;
 use problems::{Draft, Order};
 use registers::Read;
 

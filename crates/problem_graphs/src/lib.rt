@@ -4,7 +4,7 @@
 mod arrows;
 mod demands;
 mod dot;
-mod edges;
+mod edge_lines;
 mod escapes;
 mod heads;
 mod laws;
@@ -15,7 +15,7 @@ mod whys;
 
 pub use demands::read_edge;
 pub use dot::push_dot;
-pub use edges::{push_edge, push_edges};
+pub use edge_lines::{push_edge, push_edges};
 pub use heads::push_problem_line;
 pub use laws::names_are_read_back;
 pub use scheduled::push_scheduled;

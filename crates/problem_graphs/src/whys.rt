@@ -11,7 +11,7 @@ use problems::Draft;
 use writing::Text;
 
 /// Why one operation waits for another one.
-#[derive(Clone, Copy, Debug, PartialEq, Eq)]
+#[derive(Clone, Copy, PartialEq, Eq)]
 pub enum Why {
     /// It reads the value with this number, from 0, which the other one makes.
     Value(usize),

@@ -19,7 +19,7 @@ use problem_faults::Expected;
 use std::marker::Model;
 
 /// A unit that is held.
-#[derive(Clone, Copy, Debug)]
+#[derive(Clone, Copy)]
 pub struct HoldWord<'a> {
     /// The unit's name, which has no `@` and no `|`.
     pub unit: Word<'a>,

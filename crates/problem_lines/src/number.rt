@@ -7,7 +7,7 @@ ghost use Rattle.problem_lines.specs.Numbers.{integer_of, number_of};
 use loop_lines::{int_of, number_of};
 
 /// A number where it stands.
-#[derive(Clone, Copy, Debug, PartialEq, Eq)]
+#[derive(Clone, Copy, PartialEq, Eq)]
 pub struct Number {
     /// The number, or `u64::MAX` where it is above that.
     pub value: u64,
@@ -18,7 +18,7 @@ pub struct Number {
 }
 
 /// An integer where it stands.
-#[derive(Clone, Copy, Debug, PartialEq, Eq)]
+#[derive(Clone, Copy, PartialEq, Eq)]
 pub struct Integer {
     /// The integer, or `None` where it does not fit 64 bits.
     pub value: Option<i64>,
@@ -29,7 +29,7 @@ pub struct Integer {
 }
 
 /// What a register file keeps its values in.
-#[derive(Clone, Copy, Debug, PartialEq, Eq)]
+#[derive(Clone, Copy, PartialEq, Eq)]
 pub enum Storage {
     /// This number of rotating registers.
     Rotating(Number),

@@ -14,7 +14,7 @@ use crate::word::Word;
 use problem_faults::Expected;
 
 /// What a line of a text of solutions says.
-#[derive(Clone, Copy, Debug)]
+#[derive(Clone, Copy)]
 pub enum SolutionForm<'a> {
     /// `solution NAME ii NUM`: its name and its interval.
     Solution(Word<'a>, Number),
@@ -27,7 +27,7 @@ pub enum SolutionForm<'a> {
 }
 
 /// A line of a text of solutions that says something.
-#[derive(Clone, Copy, Debug)]
+#[derive(Clone, Copy)]
 pub struct SolutionLine<'a> {
     /// The column of its keyword's first byte, from 1.
     pub column: usize,

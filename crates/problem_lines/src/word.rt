@@ -6,7 +6,7 @@ ghost use Rattle.problem_lines.specs.Names.{is_name};
 use problems::Label;
 
 /// A name where it stands: 1 to 64 bytes of printable ASCII, none of them `#`.
-#[derive(Clone, Copy, Debug)]
+#[derive(Clone, Copy)]
 pub struct Word<'a> {
     /// Its text.
     pub bytes: &'a [u8],

@@ -1,7 +1,7 @@
 -- The lines of a circuit that the recurrence-constrained bound is due to.
 use Rattle.std.specs.Prelude.{◌≡◌, ◌≢◌, ℕ, List, ◌++◌, take, Some, slice_get}
 use Rattle.std.specs.List.{All}
-use Rattle.graph.specs.Dependences.{EdgeData}
+use Rattle.edges.specs.Edges.{EdgeData}
 use Rattle.graph_text.specs.CircuitLines.{circuit_line}
 use Rattle.lower_bounds.specs.Texts.{AreTexts}
 use Rattle.registers.specs.declared.value.Read.{Read}

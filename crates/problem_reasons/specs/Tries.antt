@@ -1,7 +1,7 @@
 -- The lines of the intervals that are tried.
 use Rattle.std.specs.Prelude.{◌≡◌, ℕ, ◌<◌, ◌≤◌, true, codes, List, [], ◌++◌, map}
 use Rattle.std.specs.List.{AllZip, range_with_len}
-use Rattle.graph.specs.Schedules.{IsLawfulSchedule}
+use Rattle.edges.specs.Schedules.{IsLawfulSchedule}
 use Rattle.schedules.specs.Schedules.{stages_of}
 use Rattle.problems.specs.declared.draft.Draft.{Draft}
 use Rattle.problems.specs.Problems.{ProblemData, IsProblem}

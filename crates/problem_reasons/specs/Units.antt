@@ -1,7 +1,7 @@
 -- The lines of the units that a problem uses, by the choices of the resource-constrained bound.
 use Rattle.std.specs.Prelude.{◌≡◌, ℕ, zero, suc, ◌==◌, codes, List, [], ◌++◌, length}
 use Rattle.std.specs.List.{flat_map, range_with_len}
-use Rattle.graph.specs.Units.{chosen_rows, use_of}
+use Rattle.unit_bound.specs.Units.{chosen_rows, use_of}
 use Rattle.resource_bound.specs.Choices.{AreUnitChoices, rows_at}
 use Rattle.resource_bound.specs.UnitLines.{full_text, times_text}
 use Rattle.problems.specs.declared.draft.Draft.{Draft}

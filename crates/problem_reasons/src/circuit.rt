@@ -6,7 +6,7 @@ ghost use Rattle.problems.specs.Drafts.{IsRead, IsWellFormed, read_edge};
 ghost use Rattle.problem_graphs.specs.Edges.{edge_line};
 ghost use Rattle.problem_reasons.specs.CircuitTexts.{IsCircuitText, IsWhy};
 
-use graph::Edge;
+use edges::Edge;
 use graph_text::push_circuit_line;
 use machine_data::OutOfMemory;
 use outcome_text::circuit_of;

@@ -11,7 +11,7 @@ use solution_text::cause_word;
 use solutions::{Cause, Failure};
 
 /// Why a problem has no solution at a shorter interval than its own.
-#[derive(Clone, Copy, Debug, PartialEq, Eq)]
+#[derive(Clone, Copy, PartialEq, Eq)]
 pub enum Hold {
     /// The units need the interval, and the recurrences a shorter one.
     Units,

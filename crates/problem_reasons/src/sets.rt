@@ -4,13 +4,13 @@ ghost use Rattle.std.specs.Prelude.{◌≡◌, ◌++◌, IfOk};
 ghost use Rattle.unit_sets.specs.Fullest.{IsFullest};
 ghost use Rattle.problem_reasons.specs.Sets.{set_line};
 
-use graph::OfList;
 use machine_data::OutOfMemory;
 use machine_data::limits::MAX_STATEMENTS;
 use problems::Problem;
 use reason_lines::{UnitNames, push_set_line};
 use solution_text::push_unit_name;
 use std::alloc::Global;
+use unit_bound::OfList;
 use unit_sets::{UnitSet, fullest_set};
 
 /// The units of a problem.

@@ -4,7 +4,7 @@ use Rattle.machine_data.specs.declared.limits.TheConstants.{MAX_DELAY, MAX_DISTA
 use Rattle.std.specs.List.{All, AllPairs, slice_index_or}
 use Rattle.smallvec.specs.SmallVec.{SmallVec}
 use Rattle.machine_data.specs.declared.alternative.Row.{Row}
-use Rattle.graph.specs.Dependences.{EdgeData}
+use Rattle.edges.specs.Edges.{EdgeData}
 use Rattle.registers.specs.declared.value.Read.{Read}
 use Rattle.registers.specs.declared.value.Value.{Value as PlainValue}
 use Rattle.problems.specs.declared.draft.File.{File}

@@ -1,6 +1,6 @@
 -- Scheduling problems as data.
 use Rattle.std.specs.Prelude.{◌≡◌, ℕ, Some, None, Result, Ok, Err}
-use Rattle.graph.specs.Graphs.{IsGraphWith}
+use Rattle.edges.specs.Graphs.{IsGraphWith}
 use Rattle.schedules.specs.Problems.{ProblemData as SchedulingData, IsProblem as IsScheduling}
 use Rattle.problems.specs.declared.draft.Draft.{Draft}
 use Rattle.problems.specs.declared.fault.Refusal.{Refusal}

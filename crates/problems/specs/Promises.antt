@@ -2,7 +2,7 @@
 use Rattle.std.specs.Prelude.{◌≡◌, ◌↔◌, ℕ, pos, ◌+◌, ◌*◌, ◌<◌, ◌≤◌, ◌+ℤ◌, ◌≤ℤ◌, List, length, None, slice_index}
 use Rattle.machine_data.specs.declared.limits.TheConstants.{MAX_INTERVAL, MAX_STAGES}
 use Rattle.std.specs.List.{All}
-use Rattle.graph.specs.Schedules.{KeepsEdge}
+use Rattle.edges.specs.Schedules.{KeepsEdge}
 use Rattle.registers.specs.declared.value.Read.{Read}
 use Rattle.registers.specs.Values.{AreReadInTime, AreValues}
 use Rattle.problems.specs.declared.draft.Draft.{Draft}

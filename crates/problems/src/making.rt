@@ -1,5 +1,5 @@
 //! What a draft without a fault comes to.
 
-mod edges;
+mod edge_list;
 pub(crate) mod scheduling;
 pub(crate) mod tables;

@@ -2,10 +2,10 @@
 use Rattle.std.proofs.Common.{◌≡◌, ◌≤◌, ◌<◌, ℕ, List, max, true, arith}
 use Rattle.std.proofs.lemmas.Bool.{eqb-true}
 use Rattle.machine_data.specs.declared.alternative.Row.{Row}
-use Rattle.graph.specs.Dependences.{EdgeData}
-use Rattle.graph.specs.Schedules.{IsLawfulSchedule}
-use Rattle.graph.specs.Walks.{IsRecurrenceBound}
-use Rattle.graph.proofs.walks.Recurrences.{schedules-keep_recurrences}
+use Rattle.edges.specs.Edges.{EdgeData}
+use Rattle.edges.specs.Schedules.{IsLawfulSchedule}
+use Rattle.walks.specs.Walks.{IsRecurrenceBound}
+use Rattle.walks.proofs.Recurrences.{schedules-keep_recurrences}
 use Rattle.unit_sets.specs.declared.fullest.UnitSet.{UnitSet}
 use Rattle.unit_sets.specs.Fullest.{IsFullest}
 use Rattle.unit_sets.proofs.Bounds.{bound}

@@ -1,9 +1,9 @@
 -- The least interval that is possible.
 use Rattle.std.specs.Prelude.{◌≡◌, ℕ, ◌==◌, ◌<◌, ◌≤◌, max, Bool, true, if◌then◌else◌, codes, List, []}
 use Rattle.machine_data.specs.declared.alternative.Row.{Row}
-use Rattle.graph.specs.Dependences.{EdgeData}
-use Rattle.graph.specs.Schedules.{IsLawfulSchedule}
-use Rattle.graph.specs.Walks.{IsRecurrenceBound}
+use Rattle.edges.specs.Edges.{EdgeData}
+use Rattle.edges.specs.Schedules.{IsLawfulSchedule}
+use Rattle.walks.specs.Walks.{IsRecurrenceBound}
 use Rattle.unit_sets.specs.declared.fullest.UnitSet.{UnitSet}
 use Rattle.unit_sets.specs.Fullest.{IsFullest}
 

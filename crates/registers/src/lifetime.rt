@@ -5,7 +5,7 @@ pub(crate) const MAX_VALUES: usize = 256;
 
 /// When the value of an operation lives in iteration 0, in cycles. In iteration `j` it lives `j`
 /// initiation intervals later.
-#[derive(Clone, Copy, Debug, Default, PartialEq, Eq)]
+#[derive(Clone, Copy, Default, PartialEq, Eq)]
 pub struct Lifetime {
     /// The operation's number, from 0.
     pub operation: u8,

@@ -2,7 +2,7 @@
 
 /// Two values of which instances stand in one register in one cycle. The two may be one value; then they are different
 /// instances of it.
-#[derive(Clone, Copy, Debug, PartialEq, Eq)]
+#[derive(Clone, Copy, PartialEq, Eq)]
 pub struct Meeting {
     /// The place of the value that comes earlier in the list, from 0.
     pub earlier: usize,

@@ -1,7 +1,7 @@
 //! Values of an iteration, and what reads them.
 
 /// A value of an iteration. An operation may make none, one or several.
-#[derive(Clone, Copy, Debug, Default, PartialEq, Eq)]
+#[derive(Clone, Copy, PartialEq, Eq)]
 pub struct Value {
     /// The number of the operation that makes it, from 0.
     pub maker: usize,
@@ -12,7 +12,7 @@ pub struct Value {
 }
 
 /// An operation reads a value.
-#[derive(Clone, Copy, Debug, Default, PartialEq, Eq)]
+#[derive(Clone, Copy, Debug, PartialEq, Eq)]
 pub struct Read {
     /// The number of the value, from 0.
     pub value: usize,

@@ -6,7 +6,7 @@ use candidates::Cause;
 use kernel::Kernel;
 
 /// What became of an interval of a piece.
-#[derive(Debug, Drop)]
+#[derive(Drop)]
 pub enum Found {
     /// It gives this kernel. The kernel is boxed, since most entries have none.
     Won(Box<Kernel>),
@@ -35,7 +35,7 @@ impl Found {
 }
 
 /// What became of which interval of which loop.
-#[derive(Debug, Drop)]
+#[derive(Drop)]
 pub struct Entry {
     /// The loop, by its number in the file, from 0.
     pub loop_number: u16,

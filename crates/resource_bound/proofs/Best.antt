@@ -2,8 +2,8 @@
 use Rattle.std.proofs.Common.{◌≡◌, ℕ, ◌+◌, ◌<◌, ◌≤◌, List, [], ◌++◌, length, get_or, ap, inl, inr, arith}
 use Rattle.std.proofs.lemmas.Bool.{cases_lt}
 use Rattle.machine_data.specs.declared.alternative.Row.{Row}
-use Rattle.graph.specs.Units.{greatest_use}
-use Rattle.graph.specs.Uses.{Tallies}
+use Rattle.unit_bound.specs.Units.{greatest_use}
+use Rattle.unit_bound.specs.Uses.{Tallies}
 use Rattle.resource_bound.specs.inner.Tallies.{TakesChoice}
 
 -- the choice is the best of the first n alternatives, and the counters are those with its rows

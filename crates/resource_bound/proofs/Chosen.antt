@@ -5,9 +5,9 @@ use Rattle.std.proofs.lemmas.List.{append-nil, append_assoc}
 use Rattle.std.proofs.lemmas.List.Elements.{filter_more}
 use Rattle.std.proofs.lemmas.Bool.{eq-eqb, ne_eqb}
 use Rattle.machine_data.specs.declared.alternative.Row.{Row}
-use Rattle.graph.specs.Units.{IsBest, AreBest, by_freedom, chosen_rows}
-use Rattle.graph.specs.Uses.{Tallies}
-use Rattle.graph.proofs.unit_bound.Passes.{passes, passes-more, passes_all, passes_past}
+use Rattle.unit_bound.specs.Units.{IsBest, AreBest, by_freedom, chosen_rows}
+use Rattle.unit_bound.specs.Uses.{Tallies}
+use Rattle.unit_bound.proofs.Passes.{passes, passes-more, passes_all, passes_past}
 use Rattle.resource_bound.specs.Choices.{AreUnitChoices, by_freedom_too, choices_among, rows_at}
 use Rattle.resource_bound.specs.inner.Tallies.{HasChosen, TakesChoice}
 use Rattle.resource_bound.proofs.Among.{among-taken, among-passed, passed, passed-kept, passed-more, passed-past, passed_all}

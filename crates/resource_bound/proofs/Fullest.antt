@@ -7,9 +7,9 @@ use Rattle.std.proofs.lemmas.List.Sums.{sum_by-cons}
 use Rattle.std.proofs.lemmas.Bool.{eq-eqb, ne_eqb, cases_eq, cases_lt, cases_order, le-leb, lt-leb}
 use Rattle.machine_data.specs.declared.alternative.Row.{Row}
 use Rattle.machine_data.specs.Alternative.{AreAlternatives}
-use Rattle.graph.specs.Units.{by_freedom, chosen_rows, greatest_of, greatest_use, use_of, IsUnitBound}
-use Rattle.graph.proofs.unit_bound.Passes.{passes, passes_all}
-use Rattle.graph.proofs.unit_bound.Tally.{use_of-append}
+use Rattle.unit_bound.specs.Units.{by_freedom, chosen_rows, greatest_of, greatest_use, use_of, IsUnitBound}
+use Rattle.unit_bound.proofs.Passes.{passes, passes_all}
+use Rattle.unit_bound.proofs.Tally.{use_of-append}
 use Rattle.resource_bound.specs.Choices.{AreUnitChoices, by_freedom_too, choices_among}
 use Rattle.resource_bound.proofs.Among.{among-cons, passed, passed_all}
 use Rattle.resource_bound.proofs.Chosen.{rows-append}

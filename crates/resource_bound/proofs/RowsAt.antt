@@ -5,7 +5,7 @@ use Rattle.machine_data.specs.Machines.{MachineData, table_of}
 use Rattle.loop_data.specs.declared.language.statement.Statement.{Statement}
 use Rattle.loop_data.specs.Loops.{LoopData}
 use Rattle.graph.specs.Units.{alternatives_in, operations_of}
-use Rattle.graph.proofs.unit_bound.Chosen.{operation_at}
+use Rattle.graph.proofs.finding.Operations.{operation_at}
 
 -- the alternatives of the operation of a statement that is read from a list
 pub operation-read : (machine : MachineData) (loop : LoopData) (statements : List Statement) (number : ℕ) (d : Statement) → statements ≡ loop.statements

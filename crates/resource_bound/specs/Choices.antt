@@ -4,7 +4,8 @@ use Rattle.std.specs.List.{flat_map, range_with_len, slice_index, slice_index_or
 use Rattle.machine_data.specs.declared.alternative.Row.{Row}
 use Rattle.machine_data.specs.Machines.{MachineData, IsMachine}
 use Rattle.loop_data.specs.Loops.{LoopData}
-use Rattle.graph.specs.Units.{AreBest, IsUnitBound, by_freedom, chosen_rows, first_without_table, greatest_use, operations_of}
+use Rattle.unit_bound.specs.Units.{AreBest, IsUnitBound, by_freedom, chosen_rows, greatest_use}
+use Rattle.graph.specs.Units.{first_without_table, operations_of}
 
 -- the choices of the operations that have `n` alternatives
 abbrev pub choices_among : List (List (List Row)) → List ℕ → ℕ → List ℕ

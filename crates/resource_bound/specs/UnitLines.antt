@@ -3,7 +3,8 @@ use Rattle.std.specs.Prelude.{ℕ, zero, suc, ◌==◌, Bool, if◌then◌else�
 use Rattle.std.specs.List.{flat_map, range_with_len, slice_index_or}
 use Rattle.machine_data.specs.Machines.{MachineData}
 use Rattle.loop_data.specs.Loops.{LoopData}
-use Rattle.graph.specs.Units.{chosen_rows, greatest_use, operations_of, use_of}
+use Rattle.unit_bound.specs.Units.{chosen_rows, greatest_use, use_of}
+use Rattle.graph.specs.Units.{operations_of}
 use Rattle.graph_text.specs.Names.{op_name}
 use Rattle.lower_bounds.specs.Texts.{numbers_of}
 use Rattle.writing.specs.Words.{told}

@@ -6,16 +6,17 @@ ghost use Rattle.std.specs.List.{All};
 ghost use Rattle.machine_data.specs.declared.alternative.Row.{Row};
 ghost use Rattle.graph.specs.TablesAnswer.{TablesAnswer};
 ghost use Rattle.graph.specs.Units.{first_without_table, operations_of};
-ghost use Rattle.graph.specs.Uses.{AtMost};
+ghost use Rattle.unit_bound.specs.Uses.{AtMost};
 ghost use Rattle.resource_bound.specs.Choices.{AreUnitChoices, choices_among};
 ghost use Rattle.resource_bound.specs.inner.Tallies.{HasChosen};
 
 use crate::tally::Tally;
-use graph::{GraphFault, OfList, OfLoop, Offers, missing_table};
+use graph::{GraphFault, OfLoop, missing_table};
 use loop_data::Loop;
 use machine_data::limits::{MAX_OPERATION_ALTERNATIVES, MAX_STATEMENTS};
 use machine_data::{Alternatives, Machine, OutOfMemory};
 use std::alloc::Global;
+use unit_bound::{OfList, Offers};
 
 /// Makes the choices of all operations that have `freedom` alternatives, in their order, after the rows
 /// that are counted, and counts theirs too.

@@ -4,7 +4,7 @@ ghost use Rattle.std.specs.Prelude.{ℕ, ◌+◌, ◌<◌, ◌≤◌, ◌++◌, 
 ghost use Rattle.std.specs.List.{All};
 ghost use Rattle.machine_data.specs.declared.alternative.Row.{Row};
 ghost use Rattle.machine_data.specs.Alternative.{AreAlternatives};
-ghost use Rattle.graph.specs.Uses.{AtMost, Tallies};
+ghost use Rattle.unit_bound.specs.Uses.{AtMost, Tallies};
 ghost use Rattle.resource_bound.specs.inner.Tallies.{TakesChoice};
 ghost use Rattle.machine_data.specs.declared.limits.TheConstants.{MAX_ROWS};
 

@@ -2,8 +2,9 @@
 
 ghost use Rattle.std.specs.Prelude.{◌≡◌, ◌<◌, ◌≤◌, ◌++◌, [], length, OnOk};
 ghost use Rattle.std.specs.List.{All, slice_index_or};
-ghost use Rattle.graph.specs.Units.{chosen_rows, operations_of, use_of};
-ghost use Rattle.graph.specs.Uses.{Tallies};
+ghost use Rattle.unit_bound.specs.Units.{chosen_rows, use_of};
+ghost use Rattle.graph.specs.Units.{operations_of};
+ghost use Rattle.unit_bound.specs.Uses.{Tallies};
 ghost use Rattle.resource_bound.specs.Choices.{rows_at};
 ghost use Rattle.resource_bound.specs.UnitLines.{line_with, unit_lines_of, user_text, users_text, uses_text};
 ghost use Rattle.machine_data.specs.declared.limits.TheConstants.{MAX_UNITS};

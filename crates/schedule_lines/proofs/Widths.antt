@@ -3,8 +3,8 @@ use Rattle.std.proofs.Common.{◌≡◌, ℕ, ◌+◌, max, List, [], ◌∷◌,
 use Rattle.std.specs.List.{range_with_len}
 use Rattle.std.proofs.lemmas.List.{map-append}
 use Rattle.std.proofs.lemmas.List.FromFn.{map-range_with_len_more}
-use Rattle.graph.specs.Units.{greatest_of}
-use Rattle.graph.proofs.unit_bound.Tally.{greatest_of-push}
+use Rattle.unit_bound.specs.Units.{greatest_of}
+use Rattle.unit_bound.proofs.Tally.{greatest_of-push}
 use Rattle.schedule_lines.specs.Columns.{width_of}
 
 pub width-push : (cells : List (List ℕ)) (cell : List ℕ) → width_of (cells ++ cell ∷ []) ≡ max (width_of cells) (length cell)

@@ -2,7 +2,7 @@
 use Rattle.std.specs.Prelude.{ℕ, ◌-◌, ◌==◌, ◌&&◌, nat_lt, if◌then◌else◌, codes, decimal, List, [], ◌∷◌, ◌++◌, length, map, replicate}
 use Rattle.std.specs.List.{flat_map, slice_index_or}
 use Rattle.machine_data.specs.Machines.{MachineData}
-use Rattle.graph.specs.Units.{greatest_of}
+use Rattle.unit_bound.specs.Units.{greatest_of}
 use Rattle.loop_schedules.specs.Schedules.{ScheduleData}
 use Rattle.figures.specs.LiveCounts.{greatest_live, live_count, live_counts}
 use Rattle.figures.specs.Slots.{rows_in, used_units}

@@ -1,7 +1,8 @@
 -- The edges of a problem are dependences of its loop.
 use Rattle.std.proofs.Common.{◌≡◌, ℕ, ◌<◌, List, length, get_or, sym, ◌∙◌, subst}
 use Rattle.std.specs.List.{All}
-use Rattle.graph.specs.Dependences.{EdgeData, Dependence}
+use Rattle.edges.specs.Edges.{EdgeData}
+use Rattle.graph.specs.Dependences.{Dependence}
 use Rattle.graph_text.specs.Kinds.{IsTimed}
 use Rattle.loop_data.specs.Loops.{LoopData}
 use Rattle.loop_schedules.specs.Problems.{ProblemData, IsProblem}

@@ -1,6 +1,6 @@
 -- The lines of edges.
 use Rattle.std.specs.Prelude.{ℕ, List, ◌++◌}
-use Rattle.graph.specs.Dependences.{EdgeData}
+use Rattle.edges.specs.Edges.{EdgeData}
 use Rattle.graph_marks.specs.Arrows.{IsRed, arrow_end}
 use Rattle.graph_text.specs.Dot.{arrow_start}
 use Rattle.graph_text.specs.Kinds.{IsOfKind, kind_word}

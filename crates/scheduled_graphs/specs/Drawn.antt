@@ -1,6 +1,6 @@
 -- The graph of a loop by what an interval came to, with a circuit that needs the recurrence-constrained lower bound.
 use Rattle.std.specs.Prelude.{ℕ, List}
-use Rattle.graph.specs.Dependences.{EdgeData}
+use Rattle.edges.specs.Edges.{EdgeData}
 use Rattle.graph_text.specs.Drawings.{IsCritical}
 use Rattle.loop_schedules.specs.Problems.{ProblemData}
 use Rattle.loop_schedules.specs.Schedules.{ScheduleData}

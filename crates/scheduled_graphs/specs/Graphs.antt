@@ -1,7 +1,7 @@
 -- The graph of a loop in the language of Graphviz, with its schedule or without one.
 use Rattle.std.specs.Prelude.{◌≡◌, ℕ, codes, List, ◌++◌}
 use Rattle.std.specs.List.{flat_map}
-use Rattle.graph.specs.Dependences.{EdgeData}
+use Rattle.edges.specs.Edges.{EdgeData}
 use Rattle.graph_text.specs.Dot.{node_line}
 use Rattle.lower_bounds.specs.Texts.{numbers_of}
 use Rattle.loop_schedules.specs.Problems.{ProblemData}

@@ -4,7 +4,7 @@ ghost use Rattle.std.specs.Prelude.{◌≡◌, ◌++◌, ◌↔◌, ℕ, List, I
 ghost use Rattle.std.specs.List.{Contains};
 ghost use Rattle.scheduled_graphs.specs.Arrows.{AreArrows, arrow_line};
 
-use graph::Edge;
+use edges::Edge;
 use graph_marks::push_arrow_end;
 use graph_text::{Kind, kind_of, push_arrow_start};
 use loop_schedules::Prepared;

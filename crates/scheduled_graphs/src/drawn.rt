@@ -6,7 +6,7 @@ ghost use Rattle.scheduled_graphs.specs.Drawn.{IsDrawnBy, IsScheduledGraph, IsUn
 
 use crate::graphs::{push_scheduled, push_unscheduled};
 use candidates::Cause;
-use graph::Edge;
+use edges::Edge;
 use graph_text::critical_circuit;
 use loop_schedules::{Prepared, Schedule};
 use machine_data::OutOfMemory;

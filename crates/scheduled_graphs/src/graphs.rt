@@ -7,7 +7,7 @@ use crate::arrows::push_arrows;
 use crate::heads::{push_scheduled_head, push_unscheduled_head};
 use crate::nodes::{push_all_placed, push_nodes};
 use candidates::Cause;
-use graph::Edge;
+use edges::Edge;
 use loop_schedules::{Prepared, Schedule};
 use machine_data::OutOfMemory;
 use writing::Text;

@@ -1,7 +1,7 @@
 -- Edges in lists.
 use Rattle.std.proofs.Common.{◌≡◌, ◌⊎◌, ℕ, zero, suc, ◌<◌, List, ◌∷◌, length, get_or, inl, inr, arith}
 use Rattle.std.specs.List.{Contains}
-use Rattle.graph.specs.Dependences.{EdgeData}
+use Rattle.edges.specs.Edges.{EdgeData}
 
 pub in_rest : (x : EdgeData) (xs : List EdgeData) (y : EdgeData) (k : ℕ) → k < length (x ∷ xs) → get_or (x ∷ xs) k y ≡ y → (x ≡ y) ⊎ Contains xs y
 in_rest x xs y zero below e = inl e

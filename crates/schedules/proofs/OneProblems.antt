@@ -2,11 +2,11 @@
 use Rattle.std.proofs.Common.{◌≡◌, ℕ, ◌<◌, ◌≤◌, List, [], ◌∷◌, ◌++◌, get_or, refl, sym, ap, ◌∙◌, subst, inl, inr, arith}
 use Rattle.std.proofs.lemmas.Bool.{cases_lt}
 use Rattle.machine_data.specs.declared.alternative.Row.{Row}
-use Rattle.graph.specs.Dependences.{EdgeData}
-use Rattle.graph.specs.Graphs.{GraphData}
-use Rattle.graph.specs.Units.{greatest_use, IsBest, AreBest, chosen_rows, by_freedom, IsUnitBound}
-use Rattle.graph.specs.Walks.{IsRecurrenceBound}
-use Rattle.graph.proofs.walks.Recurrences.{bound-le-fitting}
+use Rattle.edges.specs.Edges.{EdgeData}
+use Rattle.edges.specs.Graphs.{GraphData}
+use Rattle.unit_bound.specs.Units.{greatest_use, IsBest, AreBest, chosen_rows, by_freedom, IsUnitBound}
+use Rattle.walks.specs.Walks.{IsRecurrenceBound}
+use Rattle.walks.proofs.Recurrences.{bound-le-fitting}
 use Rattle.schedules.specs.Problems.{ProblemData}
 use Rattle.schedules.specs.Promises.{OneProblem}
 

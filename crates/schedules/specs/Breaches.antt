@@ -5,8 +5,8 @@ use Rattle.machine_data.specs.declared.limits.TheConstants.{MAX_STAGES}
 use Rattle.std.specs.List.{All, slice_index_or}
 use Rattle.machine_data.specs.declared.alternative.Row.{Row}
 use Rattle.machine_data.specs.Alternative.{residue_of, rows_meet}
-use Rattle.graph.specs.Dependences.{EdgeData}
-use Rattle.graph.specs.Schedules.{issued_rows, KeepsEdge, KeepsUnits}
+use Rattle.edges.specs.Edges.{EdgeData}
+use Rattle.edges.specs.Schedules.{issued_rows, KeepsEdge, KeepsUnits}
 use Rattle.schedules.specs.declared.breach.Breach.{Breach}
 use Rattle.schedules.specs.declared.breach.Breach.TheVariants.{Count, Time, Alternative, Slot, Edge, Stage}
 use Rattle.schedules.specs.Problems.{ProblemData}

@@ -4,9 +4,9 @@ use Rattle.machine_data.specs.declared.limits.TheConstants.{MAX_CEILING, MAX_RAT
 use Rattle.std.specs.List.{All, slice_index_or}
 use Rattle.machine_data.specs.declared.alternative.Row.{Row}
 use Rattle.machine_data.specs.Alternative.{AreAlternatives}
-use Rattle.graph.specs.Graphs.{GraphData, IsGraph}
-use Rattle.graph.specs.Units.{IsUnitBound}
-use Rattle.graph.specs.Walks.{IsRecurrenceBound}
+use Rattle.edges.specs.Graphs.{GraphData, IsGraph}
+use Rattle.unit_bound.specs.Units.{IsUnitBound}
+use Rattle.walks.specs.Walks.{IsRecurrenceBound}
 
 -- the edges, and each operation's latency in cycles and alternatives; the two lower bounds of the interval; an attempt may make ratio
 -- times as many placements as there are operations; how many intervals above the least one are tried

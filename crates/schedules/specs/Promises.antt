@@ -2,7 +2,7 @@
 use Rattle.std.specs.Prelude.{◌≡◌, ℕ, ◌<◌, ◌≤◌, List, length}
 use Rattle.machine_data.specs.declared.limits.TheConstants.{MAX_INTERVAL}
 use Rattle.machine_data.specs.declared.alternative.Row.{Row}
-use Rattle.graph.specs.Graphs.{GraphData}
+use Rattle.edges.specs.Graphs.{GraphData}
 use Rattle.schedules.specs.declared.breach.Breach.{Breach}
 use Rattle.schedules.specs.Problems.{ProblemData, IsProblemOf}
 use Rattle.schedules.specs.Schedules.{ScheduleData, IsSchedule, as_listed, stage_of, stages_of}

@@ -2,8 +2,8 @@
 use Rattle.std.specs.Prelude.{ℕ, ◌/◌, ◌+◌, ◌<◌, ◌≤◌, List, map, slice_index}
 use Rattle.machine_data.specs.declared.limits.TheConstants.{MAX_INTERVAL, MAX_STAGES}
 use Rattle.std.specs.List.{All}
-use Rattle.graph.specs.Schedules.{IsLawfulSchedule}
-use Rattle.graph.specs.Units.{greatest_of}
+use Rattle.edges.specs.Schedules.{IsLawfulSchedule}
+use Rattle.unit_bound.specs.Units.{greatest_of}
 use Rattle.schedules.specs.Problems.{ProblemData, IsProblem}
 
 -- an interval, and each operation's issue time, in cycles, and alternative

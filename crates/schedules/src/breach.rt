@@ -1,10 +1,10 @@
 //! What a list of times and alternatives breaks.
 
-use graph::Edge;
+use edges::Edge;
 
 /// What a list of times and alternatives breaks first, so that it is no schedule. The numbers are tested
 /// first, operation by operation; then the rows, the edges and the stages.
-#[derive(Clone, Copy, Debug, PartialEq, Eq)]
+#[derive(Clone, Copy, PartialEq, Eq)]
 pub enum Breach {
     /// There is not one place for each operation.
     Count,

@@ -4,7 +4,7 @@ ghost use Rattle.std.specs.Prelude.{◌+◌, ◌<◌, ◌≤◌, ◌^◌};
 ghost use Rattle.machine_data.specs.declared.limits.TheConstants.{MAX_INTERVAL};
 ghost use Rattle.schedules.specs.Demands.{IsDemand};
 
-use graph::Edge;
+use edges::Edge;
 
 /// The earliest cycle, from 0 on, at which an edge allows its target to be issued, where the operation that it comes from is issued
 /// in cycle `time`, below 2^32, and each iteration begins `ii` cycles, at most 16,384, after the one before it. That is less than 128

@@ -5,7 +5,7 @@ ghost use Rattle.schedules.specs.Problems.{AreKinds, IsProblem, IsProblemOf, mii
 ghost use Rattle.schedules.specs.inner.Kinds.{KnowsKinds};
 ghost use Rattle.machine_data.specs.declared.limits.TheConstants.{MAX_CEILING, MAX_INTERVAL, MAX_RATIO};
 
-use graph::Edges;
+use edges::Edges;
 use machine_data::limits::MAX_STATEMENTS;
 use machine_data::{Alternatives, OutOfMemory};
 use mrt::ModuloTable;
@@ -104,8 +104,8 @@ impl Problem {
         ensures no_memory { IsOk result }
     {
         prove!(edges.operations() <= MAX_STATEMENTS);
-        let resources = graph::res_mii_of(alternatives.as_slice());
-        let recurrences = graph::rec_mii(alloc, &edges)?;
+        let resources = unit_bound::res_mii_of(alternatives.as_slice());
+        let recurrences = walks::rec_mii(alloc, &edges)?;
         Ok(Problem {
             edges,
             alternatives,

@@ -3,7 +3,7 @@
 ghost use Rattle.std.specs.Prelude.{◌≡◌, ◌+◌, ◌/◌, ◌<◌, map};
 ghost use Rattle.std.specs.List.{All};
 ghost use Rattle.machine_data.specs.declared.limits.TheConstants.{MAX_STAGES};
-ghost use Rattle.graph.specs.Units.{greatest_of};
+ghost use Rattle.unit_bound.specs.Units.{greatest_of};
 
 /// One more than the greatest stage of these times.
 pub(crate) fn count_stages(times: &[u64], ii: u64) -> u64

@@ -2,8 +2,8 @@
 use Rattle.std.specs.Prelude.{codes, List, [], ◌∷◌}
 use Rattle.serde_json.specs.Data.{Data, null, number, object, member, no_members}
 use Rattle.serde_json.specs.Find.{of_integer}
-use Rattle.graph.specs.Dependences.{EdgeData}
-use Rattle.graph.specs.Walks.{delay_of, distance_of}
+use Rattle.edges.specs.Edges.{EdgeData}
+use Rattle.walks.specs.Walks.{delay_of, distance_of}
 use Rattle.problems.specs.declared.draft.Draft.{Draft}
 use Rattle.outcome_text.specs.Notes.{stops_of}
 use Rattle.solution_json.specs.Parts.{count_value, op_names}

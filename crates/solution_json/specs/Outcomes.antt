@@ -2,7 +2,7 @@
 use Rattle.std.specs.Prelude.{◌≡◌, ℕ, codes, Bool, List, length, Option}
 use Rattle.serde_json.specs.Data.{Data, Members, string, object, member, no_members, put}
 use Rattle.serde_json.specs.Written.{compact_text}
-use Rattle.graph.specs.Dependences.{EdgeData}
+use Rattle.edges.specs.Edges.{EdgeData}
 use Rattle.modulo.specs.declared.outcome.attempts.Culprit.{Culprit}
 use Rattle.schedules.specs.Problems.{mii_of}
 use Rattle.problems.specs.Problems.{ProblemData}

@@ -9,7 +9,7 @@ ghost use Rattle.solution_json.specs.Parts.{op_names};
 
 use crate::told::told_names;
 use circuits::sums_of;
-use graph::Edge;
+use edges::Edge;
 use machine_data::OutOfMemory;
 use problems::Draft;
 use serde_json::{Value, json};

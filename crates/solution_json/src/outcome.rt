@@ -13,7 +13,7 @@ use crate::failures::told_evidence;
 use crate::members::{object_of, with, with_count};
 use crate::solved::told_solution;
 use crate::told::told_names;
-use graph::Edge;
+use edges::Edge;
 use machine_data::OutOfMemory;
 use modulo::Culprit;
 use outcome_text::{circuit_of, fullest_of, is_met};

@@ -1,6 +1,6 @@
 -- What a check says of a problem: that a solution is one, what it breaks first, or what it lacks.
 use Rattle.std.specs.Prelude.{ℕ, ◌==◌, if◌then◌else◌, codes, List, ◌++◌}
-use Rattle.graph.specs.Dependences.{EdgeData}
+use Rattle.edges.specs.Edges.{EdgeData}
 use Rattle.schedules.specs.declared.breach.Breach.{Breach}
 use Rattle.schedules.specs.declared.breach.Breach.TheVariants.{Count, Time, Alternative, Slot, Edge, Stage}
 use Rattle.schedules.specs.Schedules.{stages_of}

@@ -17,7 +17,7 @@ use writing::{Text, push_told};
 pub const MAX_ABOVE: u64 = 4_096;
 
 /// A register of a rotating file.
-#[derive(Clone, Copy, Debug, PartialEq, Eq)]
+#[derive(Clone, Copy, PartialEq, Eq)]
 pub struct Register {
     /// The number of the file, from 0.
     pub file: usize,

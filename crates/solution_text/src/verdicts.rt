@@ -7,7 +7,7 @@ ghost use Rattle.solution_text.specs.Verdicts.{breach_text, broken_line, broken_
 
 use crate::named::Register;
 use crate::parts::{Part, push_parts};
-use graph::Edge;
+use edges::Edge;
 use machine_data::OutOfMemory;
 use problems::Draft;
 use schedules::Breach;
@@ -15,7 +15,7 @@ use solutions::{Broken, Solution};
 use writing::{Text, push_both, push_told};
 
 /// What a text of solutions lacks of a problem's solution. Numbers count from 0.
-#[derive(Clone, Copy, Debug, PartialEq, Eq)]
+#[derive(Clone, Copy, PartialEq, Eq)]
 pub enum Missing {
     /// It has no solution of the problem.
     Solution,

@@ -4,7 +4,7 @@ use Rattle.std.specs.List.{All}
 use Rattle.std.specs.Prelude.{slice_index}
 use Rattle.std.proofs.lemmas.List.{length-map}
 use Rattle.std.proofs.Math.Nat.{mul-le-mul_left, div-add-mod', mod-lt}
-use Rattle.graph.specs.Schedules.{KeepsEdge}
+use Rattle.edges.specs.Schedules.{KeepsEdge}
 use Rattle.schedules.specs.Problems.{ProblemData as SchedulingData}
 use Rattle.schedules.specs.Schedules.{ScheduleData, IsSchedule, stages_of}
 use Rattle.schedules.proofs.lawfulness.Stages.{stages-are_few}

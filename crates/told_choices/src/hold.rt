@@ -11,7 +11,7 @@ use candidates::Cause;
 use loop_schedules::Prepared;
 
 /// Why a loop has no kernel at a shorter interval than its own.
-#[derive(Clone, Copy, Debug, PartialEq, Eq)]
+#[derive(Clone, Copy, PartialEq, Eq)]
 pub enum Hold {
     /// The units of the machine need the interval, and the recurrences a shorter one.
     Units,

@@ -9,7 +9,7 @@ use rotating::Lifetime;
 
 /// Why an interval gives no kernel. Of the intervals of a loop that fail for registers, the first and the last tell how many
 /// registers all values need; the others tell the first value that has none, since it takes a search to find the need.
-#[derive(Debug, Drop)]
+#[derive(Drop)]
 pub enum Why {
     /// What keeps the attempt from a schedule.
     Attempt(Culprit),

@@ -9,8 +9,8 @@ use Rattle.std.proofs.Math.Nat.{div-le_of_le-mul, div-zero, lt-mul-div-succ, mul
 use Rattle.std.specs.Int.Bits.{or_zero_l}
 use Rattle.std.specs.Int.{bit_at}
 use Rattle.std.specs.List.{Contains, range_with_len}
-use Rattle.graph.specs.Dependences.{EdgeData}
-use Rattle.graph.specs.Schedules.{IsLawfulSchedule}
+use Rattle.edges.specs.Edges.{EdgeData}
+use Rattle.edges.specs.Schedules.{IsLawfulSchedule}
 use Rattle.machine_data.specs.declared.alternative.Row.{Row}
 use Rattle.unit_sets.specs.declared.fullest.UnitSet.{UnitSet}
 use Rattle.unit_sets.specs.Sets.{set_rows}

@@ -5,10 +5,10 @@ use Rattle.std.proofs.lemmas.List.Sums.{sum_by-cons, sum_by-append}
 use Rattle.std.specs.List.{slice_index, flat_map, fold}
 use Rattle.machine_data.specs.declared.alternative.Row.{Row}
 use Rattle.machine_data.specs.Alternative.{rows_meet}
-use Rattle.graph.specs.Dependences.{EdgeData}
-use Rattle.graph.specs.Units.{use_of}
-use Rattle.graph.specs.Schedules.{IsLawfulSchedule, KeepsUnits, issued_rows}
-use Rattle.graph.proofs.unit_bound.Pigeons.{Apart, use-le-interval}
+use Rattle.edges.specs.Edges.{EdgeData}
+use Rattle.unit_bound.specs.Units.{use_of}
+use Rattle.edges.specs.Schedules.{IsLawfulSchedule, KeepsUnits, issued_rows}
+use Rattle.unit_bound.proofs.Pigeons.{Apart, use-le-interval}
 use Rattle.unit_sets.specs.Sets.{is_in, rows_in, least_of, least_rows, set_rows}
 
 -- no number is less than the least of them

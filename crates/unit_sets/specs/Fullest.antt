@@ -5,8 +5,8 @@ use Rattle.std.specs.List.{All, Contains, flat_map, fold, range_with_len, slice_
 use Rattle.machine_data.specs.Alternative.{AreAlternatives}
 use Rattle.machine_data.specs.declared.alternative.Row.{Row}
 use Rattle.machine_data.specs.declared.limits.TheConstants.{MAX_UNITS}
-use Rattle.graph.specs.Dependences.{EdgeData}
-use Rattle.graph.specs.Schedules.{IsLawfulSchedule}
+use Rattle.edges.specs.Edges.{EdgeData}
+use Rattle.edges.specs.Schedules.{IsLawfulSchedule}
 use Rattle.unit_sets.specs.declared.fullest.UnitSet.{UnitSet}
 use Rattle.unit_sets.specs.declared.TheConstants.{PARTS, ROUNDS}
 use Rattle.unit_sets.specs.Sets.{is_in, set_rows}

@@ -3,8 +3,8 @@
 use Rattle.std.specs.Prelude.{ℕ, ◌*◌, ◌<◌, ◌≤◌, ◌==◌, min, Bool, List, [], ◌∷◌, length, map, count_by}
 use Rattle.std.specs.List.{list_any, sum_by, fold}
 use Rattle.machine_data.specs.declared.alternative.Row.{Row}
-use Rattle.graph.specs.Dependences.{EdgeData}
-use Rattle.graph.specs.Schedules.{IsLawfulSchedule}
+use Rattle.edges.specs.Edges.{EdgeData}
+use Rattle.edges.specs.Schedules.{IsLawfulSchedule}
 
 -- whether the unit is one of the set
 abbrev pub is_in : List ℕ → ℕ → Bool

@@ -7,9 +7,9 @@ ghost use Rattle.unit_sets.specs.Fullest.{first_sets as the_first_sets, sets_of}
 ghost use Rattle.unit_sets.specs.inner.Added.{IsAdded};
 
 use crate::units::{at_place, of_all, with_alternatives};
-use graph::Offers;
 use machine_data::{Alternative, OutOfMemory};
 use std::alloc::Global;
+use unit_bound::Offers;
 
 /// Appends a set if it is not there.
 fn push_new(sets: &mut Vec<u64>, set: u64) -> Result<(), OutOfMemory>

@@ -11,13 +11,13 @@ use crate::ROUNDS;
 use crate::first_sets::first_sets;
 use crate::rating::{Rated, rating_of};
 use crate::units::has;
-use graph::Offers;
 use machine_data::OutOfMemory;
 use machine_data::limits::MAX_STATEMENTS;
 use std::alloc::Global;
+use unit_bound::Offers;
 
 /// A set of units, with how often the operations of an iteration have to use them.
-#[derive(Clone, Copy, Debug, Drop, PartialEq, Eq)]
+#[derive(Clone, Copy, Drop, PartialEq, Eq)]
 pub struct UnitSet {
     /// The set: bit `u` tells whether unit `u` is one of it.
     pub units: u64,

@@ -10,8 +10,8 @@ ghost use Rattle.unit_sets.specs.inner.Rated.{IsRated};
 
 use crate::PARTS;
 use crate::units::{has, size};
-use graph::Offers;
 use machine_data::{Alternative, Row};
+use unit_bound::Offers;
 
 /// How many of at most 16 rows are of units of a set.
 fn rows_in(set: u64, rows: &[Row]) -> u16

@@ -8,9 +8,9 @@ ghost use Rattle.machine_data.specs.declared.limits.TheConstants.{MAX_UNITS};
 ghost use Rattle.unit_sets.specs.Sets.{is_in};
 ghost use Rattle.unit_sets.specs.Fullest.{all_rows, row_at, units_in, units_of, with_row};
 
-use graph::Offers;
 use machine_data::limits::MAX_UNITS;
 use machine_data::{Alternative, Row};
+use unit_bound::Offers;
 
 /// Whether a unit is one of a set.
 pub(crate) fn has(set: u64, unit: u8) -> bool

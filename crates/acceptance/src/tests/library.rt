@@ -1,10 +1,11 @@
 //! The example of README.md: bounds and a plain run of texts in memory.
 
 use super::given::{ACC, M1};
-use graph::{edges, mii, rec_mii, res_mii};
+use graph::{edges, res_mii};
 use loops::{read_loops, run_plain};
 use machine::read_machine;
 use std::test::Fail;
+use walks::{mii, rec_mii};
 
 #[test]
 fn tells_bounds_of_texts_in_memory(rt: HostRuntime) -> Result<(), Fail> {

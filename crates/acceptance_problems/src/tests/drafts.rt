@@ -1,6 +1,6 @@
 //! A small problem, and drafts with one fault each.
 
-use graph::Edge;
+use edges::Edge;
 use machine_data::OutOfMemory;
 use problems::{
     Draft, Fault, File, Hold, Kind, Label, Names, Order, Part, Problem, Value, first_fault,

@@ -195,6 +195,6 @@ fn judges_lists_that_are_too_short(rt: HostRuntime) {
     let problem = filter(&rt, rt.alloc());
     for (places, numbers, wanted) in JUDGED {
         let found = broken(&rt, rt.alloc(), &problem, places, numbers);
-        assert!(rt; found == *wanted, "{wanted:?}");
+        assert!(rt; found == *wanted, "{places:?}");
     }
 }

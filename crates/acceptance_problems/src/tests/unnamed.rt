@@ -4,7 +4,7 @@
 //! and two iterations later the value 2, which the operation 0 makes too, in a file that is not allotted. `tests/sessions/solutions.session` has the same problem with names.
 
 use super::drafts::{no_names, problem};
-use graph::Edge;
+use edges::Edge;
 use machine_data::OutOfMemory;
 use modulo::Culprit;
 use outcome_text::push_outcome;

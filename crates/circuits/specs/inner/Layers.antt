@@ -1,9 +1,9 @@
 -- The longest walks from each operation, by how many edges they may have.
 use Rattle.std.specs.Prelude.{◌≡◌, ◌≢◌, ℕ, pos, ◌+◌, ◌*◌, ◌+ℤ◌, ◌<◌, ◌≤◌, ◌==◌, List, ◌∷◌, ◌++◌, length, filter, slice_index, Option, None, MatchOption}
 use Rattle.std.specs.List.{slice_index_or, All, AllPairs, Contains}
-use Rattle.graph.specs.Dependences.{EdgeData}
-use Rattle.graph.specs.Graphs.{GraphData}
-use Rattle.graph.specs.Kept.{KeepsNumber}
+use Rattle.edges.specs.Edges.{EdgeData}
+use Rattle.edges.specs.Graphs.{GraphData}
+use Rattle.walks.specs.Kept.{KeepsNumber}
 
 -- at the interval, the edge leads on to a walk of its target's length, and with it the walk is this long
 abbrev pub LeadsOn : List EdgeData → ℕ → List ℕ → ℕ → EdgeData → Type 0

@@ -1,9 +1,9 @@
 -- What sweeps over the edges keep for each operation, and what they come to.
 use Rattle.std.specs.Prelude.{◌≡◌, ◌≢◌, ℕ, ◌<◌, ◌≤◌, List, length, slice_index, Option, IfSome}
 use Rattle.std.specs.List.{slice_index_or, AllPairs, Contains}
-use Rattle.graph.specs.Dependences.{EdgeData}
-use Rattle.graph.specs.Graphs.{GraphData}
-use Rattle.graph.specs.Walks.{IsWalk, FitsCircuits}
+use Rattle.edges.specs.Edges.{EdgeData}
+use Rattle.edges.specs.Graphs.{GraphData}
+use Rattle.walks.specs.Walks.{IsWalk, FitsCircuits}
 use Rattle.circuits.specs.Circuits.{IsCircuitAbove}
 use Rattle.circuits.specs.declared.sweeps.Swept.{Swept}
 use Rattle.circuits.specs.declared.sweeps.Swept.TheVariants.{Fits, Circuit, Open}

@@ -10,7 +10,7 @@ use Rattle.loop_data.specs.declared.language.statement.Statement.{Statement}
 use Rattle.loop_data.specs.declared.language.statement.Place.{Place}
 use Rattle.loop_data.specs.declared.language.statement.Operand.{Operand}
 use Rattle.loop_data.specs.declared.language.statement.Operand.TheVariants.{Value}
-use Rattle.graph.specs.Dependences.{EdgeData}
+use Rattle.edges.specs.Edges.{EdgeData}
 use Rattle.graph.specs.Subscripts.{IsDelay, IsMemoryEdge, IsUse, IsMeeting, IsFound, GainsEdges, HasUses, HasMeetings, HasAllEdges}
 
 pub memory_edge-sound : (latencies : List ℕ) (p : ℕ) (first : Statement) (q : ℕ) (second : Statement) (place later : Place) (d : ℕ) (delay : ℤ)

@@ -2,7 +2,7 @@
 use Rattle.std.proofs.Common.{◌≡◌, ◌⊎◌, ℕ, ◌<◌, ◌≤◌, ℤ, pos, ◌+ℤ◌, ◌-ℤ◌, List, length, get_or, sym, subst, inl, inr, arith, Some}
 use Rattle.std.specs.Prelude.{◌≤ℤ◌}
 use Rattle.std.proofs.lemmas.Int.{ints}
-use Rattle.std.proofs.lemmas.List.Elements.{All-contains, Contains-get_or}
+use Rattle.std.proofs.lemmas.List.Elements.{All-contains}
 use Rattle.std.proofs.lemmas.Option.{slice_get_within, slice_get-get_or}
 use Rattle.std.specs.List.{slice_index, slice_get, All, AllPairs, Contains}
 use Rattle.machine_data.specs.Machines.{MachineData}
@@ -10,9 +10,12 @@ use Rattle.loop_data.specs.declared.language.statement.Statement.{Statement}
 use Rattle.loop_data.specs.declared.language.statement.Operand.{Operand}
 use Rattle.loop_data.specs.declared.language.statement.Operand.TheVariants.{Constant, Parameter, Value}
 use Rattle.loop_data.specs.Loops.{LoopData, IsLoop, MayRead}
-use Rattle.graph.specs.Dependences.{EdgeData, Precedes, Dependence, latencies_of}
-use Rattle.graph.specs.Graphs.{IsGraph, IsGraphOf}
+use Rattle.edges.specs.Edges.{EdgeData, Precedes}
+use Rattle.graph.specs.Dependences.{Dependence, latencies_of}
+use Rattle.edges.specs.Graphs.{IsGraph}
+use Rattle.graph.specs.Graphs.{IsGraphOf}
 use Rattle.graph.specs.Subscripts.{AreLatencies, IsFound, ReadsBelow}
+use Rattle.edges.proofs.GivenEdges.{all_from_contains}
 use Rattle.graph.proofs.finding.Instances.{found-from_dependence, dependence-from_found}
 
 reads_one : (loop : LoopData) (reader n : ℕ) (o : Operand) → n ≡ length loop.statements → MayRead loop reader o → ReadsBelow n o
@@ -64,9 +67,6 @@ good-from_found loop latencies l lat is e (inr m) =
       delay = delay-le 0 0 (slice_index latencies e.from) (slice_index latencies e.to) e.delay short some
           (elim m.edge.delay [ inl h ↦ inl h.2 | inr h ↦ inr (elim h [ inl k ↦ inl k.2 | inr k ↦ inr k.2 ]) ]);
     }
-
-pub all_from_contains : (P : EdgeData → Type 0) (list left : List EdgeData) → All P list → ((e : EdgeData) → Contains left e → Contains list e) → All P left
-all_from_contains P list left h less = λ k d within. All-contains P list (get_or left k d) h (less (get_or left k d) (Contains-get_or left k d within))
 
 -- each edge that is found is one from an operation of the loop
 pub sources-below : (loop : LoopData) (latencies : List ℕ) (list : List EdgeData) → IsLoop loop → AreLatencies latencies → length latencies ≡ length loop.statements

@@ -8,7 +8,8 @@ use Rattle.machine_data.specs.declared.opcode.Opcode.TheVariants.{Load, Store}
 use Rattle.loop_data.specs.Loops.{LoopData}
 use Rattle.loop_data.specs.declared.language.statement.Statement.{Statement}
 use Rattle.loop_data.specs.declared.language.statement.Place.{Place}
-use Rattle.graph.specs.Dependences.{EdgeData, Touches, HasOpcode, ComesFirst, MeetInMemory, Dependence, value_flow, memory_flow, anti, output}
+use Rattle.edges.specs.Edges.{EdgeData}
+use Rattle.graph.specs.Dependences.{Touches, HasOpcode, ComesFirst, MeetInMemory, Dependence, value_flow, memory_flow, anti, output}
 use Rattle.graph.specs.Subscripts.{IsDelay, IsMeeting, IsFound}
 
 pub comes_first : (p i q d : ℕ) → (d ≡ 0 → p < q) → ComesFirst p i q (i + d)

@@ -7,9 +7,10 @@ use Rattle.std.proofs.Math.Nat.{mul-add}
 use Rattle.std.specs.List.{slice_index, Contains}
 use Rattle.loop_data.specs.Loops.{LoopData, IsLoop, MayRead}
 use Rattle.loop_data.specs.declared.language.statement.Operand.TheVariants.{Value}
-use Rattle.graph.specs.Dependences.{EdgeData, ComesFirst, MeetInMemory, Dependence, value_flow, memory_flow, anti, output}
+use Rattle.edges.specs.Edges.{EdgeData}
+use Rattle.graph.specs.Dependences.{ComesFirst, MeetInMemory, Dependence, value_flow, memory_flow, anti, output}
 use Rattle.graph.specs.Promises.{InOrder, ValuesInTime, StoresInTime, LoadsInTime, StoresInOrder, CircuitsTakeIterations}
-use Rattle.graph.specs.Walks.{IsWalk, distance_of}
+use Rattle.walks.specs.Walks.{IsWalk, distance_of}
 use Rattle.graph.specs.Subscripts.{IsFound}
 use Rattle.graph.proofs.finding.Instances.{comes_first, found-from_dependence}
 

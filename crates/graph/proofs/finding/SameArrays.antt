@@ -5,7 +5,7 @@ use Rattle.std.proofs.lemmas.Bool.{cases_lt, cases_eq}
 use Rattle.std.proofs.lemmas.Option.{slice_get_within}
 use Rattle.loop_data.specs.declared.language.statement.Statement.{Statement}
 use Rattle.loop_data.specs.declared.language.statement.Place.{Place}
-use Rattle.graph.specs.Dependences.{EdgeData}
+use Rattle.edges.specs.Edges.{EdgeData}
 use Rattle.graph.specs.Subscripts.{HasMeetings}
 use Rattle.graph.specs.inner.SameArrays.{Skips, IsLink, IsNextTouch, AreLinked}
 

@@ -3,12 +3,12 @@
 ghost use Rattle.loop_data.specs.declared.language.statement.Statement.{Statement};
 ghost use Rattle.std.specs.Prelude.{slice_get, pos, ◌+ℤ◌, ◌≡◌, ℕ, ℤ, ◌+◌, ◌<◌, ◌≤◌, length, Some, IfSome, IfOk};
 ghost use Rattle.std.specs.List.{All, Contains};
-ghost use Rattle.graph.specs.Dependences.{EdgeData};
+ghost use Rattle.edges.specs.Edges.{EdgeData};
 ghost use Rattle.graph.specs.Subscripts.{IsDelay, IsMemoryEdge, ReadsBelow, AreLatencies, IsFound, GainsEdges, HasUses, HasMeetings};
 ghost use Rattle.graph.specs.inner.SameArrays.{AreLinked};
 ghost use Rattle.machine_data.specs.declared.limits.TheConstants.{MAX_LATENCY};
 
-use crate::dependence::edge::Edge;
+use edges::Edge;
 use loop_data::{Operand, Statement};
 use machine_data::limits::MAX_STATEMENTS;
 use machine_data::{Opcode, OutOfMemory};

@@ -1,23 +1,18 @@
 //! All dependences of a loop.
 
-ghost use Rattle.std.specs.Prelude.{◌≡◌, ℕ, ◌<◌, ◌≤◌, IfOk, Vec};
+ghost use Rattle.std.specs.Prelude.{◌≡◌, ℕ, IfOk, Vec};
 ghost use Rattle.std.specs.Global.{Global};
-ghost use Rattle.std.specs.List.{All, AllPairs, Contains};
 ghost use Rattle.graph.specs.TablesAnswer.{TablesAnswer};
 ghost use Rattle.graph.specs.Units.{first_without_table};
-ghost use Rattle.graph.specs.Dependences.{EdgeData, Precedes, latencies_of};
+ghost use Rattle.graph.specs.Dependences.{latencies_of};
 ghost use Rattle.graph.specs.Graphs.{IsGraphOf};
 ghost use Rattle.graph.specs.Subscripts.{AreLatencies};
-ghost use Rattle.machine_data.specs.declared.limits.TheConstants.{MAX_STATEMENTS};
 
 use crate::dependence::collect::collect;
-use crate::dependence::edge::Edge;
 use crate::fault::GraphFault;
-use crate::layout::graph::Edges;
-use crate::layout::groups::by_end;
-use crate::layout::starts::End;
+use edges::{Edges, in_order};
 use loop_data::Loop;
-use machine_data::{Machine, OutOfMemory};
+use machine_data::Machine;
 use std::alloc::Global;
 
 /// The latency of each operation of a loop.
@@ -33,25 +28,6 @@ fn latencies(alloc: Global, machine: &Machine, innermost: &Loop) -> Result<Vec<u
         }
     }
     Ok(cycles)
-}
-
-/// The same edges, ascending and each once. The edges to each operation stand together, so those from each
-/// are nearly in order, which a sort is quick to find.
-pub(crate) fn in_order(
-    alloc: Global,
-    list: &[Edge],
-    operations: usize,
-) -> Result<Vec<Edge>, OutOfMemory>
-    requires few { operations ≤ MAX_STATEMENTS }
-    requires ends { All (λ (e : EdgeData). e.from < operations) list.now }
-    ensures ascending { IfOk result (λ v. AllPairs Precedes v.items) }
-    ensures kept { IfOk result (λ v. (e : EdgeData) → Contains list.now e → Contains v.items e) }
-    ensures no_more { IfOk result (λ v. (e : EdgeData) → Contains v.items e → Contains list.now e) }
-{
-    let mut ordered = by_end(alloc, list, End::Source, operations)?;
-    ordered.sort()?;
-    ordered.dedup();
-    Ok(ordered)
 }
 
 /// The dependences between the operations of a loop with the latencies of a machine.

@@ -9,7 +9,7 @@ ghost use Rattle.lower_bounds.specs.Texts.{AreTexts, numbers_of};
 
 use crate::kind::{Kind, kind_of};
 use crate::names::{opcode_word, push_name};
-use graph::{Edge, Edges};
+use edges::{Edge, Edges};
 use loop_data::Loop;
 use lower_bounds::{LowerBounds, Measured, push_bounds_told};
 use machine_data::OutOfMemory;

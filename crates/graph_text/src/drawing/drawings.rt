@@ -3,13 +3,13 @@
 ghost use Rattle.std.specs.Prelude.{◌≡◌, ◌≤◌, ◌++◌, ℕ, List, Vec, IfOk};
 ghost use Rattle.std.specs.Global.{Global};
 ghost use Rattle.graph.specs.Units.{first_lacking};
-ghost use Rattle.graph.specs.Walks.{IsRecurrenceBound};
+ghost use Rattle.walks.specs.Walks.{IsRecurrenceBound};
 ghost use Rattle.graph_text.specs.Drawings.{AreDotParts, IsCritical, IsDotPart};
 ghost use Rattle.lower_bounds.specs.Faults.{TextAnswers, lacking_in};
 
 use crate::drawing::dot::push_dot;
 use circuits::circuit_above;
-use graph::{Edge, Edges};
+use edges::{Edge, Edges};
 use loop_data::Loop;
 use lower_bounds::{TextFault, measure};
 use machine_data::{Machine, OutOfMemory};

@@ -5,7 +5,7 @@ ghost use Rattle.graph_text.specs.CircuitLines.{circuit_line, sums_line};
 
 use crate::listing::sums::push_sums;
 use circuits::{Sums, sums_of};
-use graph::Edge;
+use edges::Edge;
 use machine_data::OutOfMemory;
 use writing::{Text, push_told};
 

@@ -52,12 +52,20 @@ impl fmt::Display for Rule {
 }
 
 /// Parts that make no well-formed kernel, with the first rule that fails.
-#[derive(Debug, Drop, Error)]
+#[derive(Drop, Error)]
 pub struct BadKernel {
     /// The first rule that fails.
     pub rule: Rule,
     /// The parts, unchanged.
     pub parts: Parts,
+}
+
+impl fmt::Debug for BadKernel {
+    fn fmt<W: fmt::Write>(&self, f: &mut fmt::Formatter<W>) -> fmt::Result {
+        f.debug_struct("BadKernel")
+            .field("rule", &self.rule)
+            .finish_non_exhaustive()
+    }
 }
 
 /// Prints the rule, and nothing of the parts.

@@ -4,7 +4,7 @@ use crate::kernels::lists::Sources;
 use machine_data::Opcode;
 
 /// What an operation reads.
-#[derive(Clone, Copy, Debug, PartialEq, Eq)]
+#[derive(Clone, Copy, PartialEq, Eq)]
 pub enum Source {
     /// The register of this name, which rotates.
     Register(u16),
@@ -26,7 +26,7 @@ impl Default for Source {
 }
 
 /// A cell that moves with the turns: in turn `k` it is the array's cell `k + offset`.
-#[derive(Clone, Copy, Debug, PartialEq, Eq)]
+#[derive(Clone, Copy, PartialEq, Eq)]
 pub struct Address {
     /// The array's number, from 0.
     pub array: u8,
@@ -35,7 +35,7 @@ pub struct Address {
 }
 
 /// One operation of a kernel. It is issued in its row of each turn in which its stage is active.
-#[derive(Debug, Drop)]
+#[derive(Drop)]
 pub struct Operation {
     /// The row of a turn, from 0, in cycles.
     pub row: u16,

@@ -8,7 +8,7 @@ use machine_data::Name;
 use std::marker::Model;
 
 /// The initial value of a register.
-#[derive(Clone, Copy, Debug, PartialEq, Eq)]
+#[derive(Clone, Copy, PartialEq, Eq)]
 pub struct Preload {
     /// The physical register, which is also the register's name in turn 0.
     pub register: u16,
@@ -17,7 +17,7 @@ pub struct Preload {
 }
 
 /// A value that is live at the end.
-#[derive(Debug, Drop)]
+#[derive(Drop)]
 pub struct Out {
     /// The value's name.
     pub name: Name,
@@ -26,7 +26,7 @@ pub struct Out {
 }
 
 /// The parts of a kernel, well formed or not.
-#[derive(Debug, Drop)]
+#[derive(Drop)]
 pub struct Parts {
     /// The initiation interval: how many rows a turn has, in cycles.
     pub ii: u64,
@@ -48,7 +48,7 @@ pub struct Parts {
 
 /// A well-formed kernel. It need not come from a loop, and may let two values share a register.
 /// Contracts see its parts.
-#[derive(Debug, Drop)]
+#[derive(Drop)]
 pub struct Kernel {
     parts: Parts,
 }

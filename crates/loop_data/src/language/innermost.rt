@@ -11,7 +11,7 @@ use machine_data::Name;
 use std::marker::Model;
 
 /// An innermost loop: what each iteration does, in order. Contracts see it as data.
-#[derive(Debug, Drop)]
+#[derive(Drop)]
 pub struct Loop {
     name: Name,
     arrays: Vec<Array>,

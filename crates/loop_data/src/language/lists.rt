@@ -13,7 +13,7 @@ pub type Operands = ShortListOf<Operand>;
 pub type Cells = ListOf<i64>;
 
 /// An array.
-#[derive(Debug, Drop)]
+#[derive(Drop)]
 pub struct Array {
     pub name: Name,
     /// At most 1,024 cells.
@@ -21,14 +21,14 @@ pub struct Array {
 }
 
 /// A parameter, which has one value in every iteration.
-#[derive(Debug, Drop)]
+#[derive(Drop)]
 pub struct Param {
     pub name: Name,
     pub value: i64,
 }
 
 /// An initial value: what the value of a statement was `number` iterations before the first one.
-#[derive(Clone, Copy, Debug, PartialEq, Eq)]
+#[derive(Clone, Copy, PartialEq, Eq)]
 pub struct Initial {
     /// The statement's number, from 0.
     pub statement: u8,

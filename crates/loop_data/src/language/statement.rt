@@ -4,7 +4,7 @@ use crate::language::lists::Operands;
 use machine_data::{Name, Opcode};
 
 /// What a statement reads.
-#[derive(Clone, Copy, Debug, PartialEq, Eq)]
+#[derive(Clone, Copy, PartialEq, Eq)]
 pub enum Operand {
     /// This number.
     Constant(i64),
@@ -27,7 +27,7 @@ impl Default for Operand {
 }
 
 /// A cell that moves with the iterations: in iteration `j` it is the array's cell `j + offset`.
-#[derive(Clone, Copy, Debug, PartialEq, Eq)]
+#[derive(Clone, Copy, PartialEq, Eq)]
 pub struct Place {
     /// The array's number, from 0.
     pub array: u8,
@@ -39,7 +39,7 @@ pub struct Place {
 ///
 /// A `load` has a name and a place, a `store` a place and one operand or, where it is guarded, two,
 /// and every other opcode a name and as many operands as it takes.
-#[derive(Debug, Drop)]
+#[derive(Drop)]
 pub struct Statement {
     pub opcode: Opcode,
     /// The name of the value, of which a `store` has none.

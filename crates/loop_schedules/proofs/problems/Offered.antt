@@ -8,7 +8,8 @@ use Rattle.machine_data.specs.Machines.{MachineData, OperationData, IsMachine, t
 use Rattle.loop_data.specs.declared.language.statement.Statement.{Statement}
 use Rattle.loop_data.specs.Loops.{LoopData, IsLoop}
 use Rattle.graph.specs.Dependences.{Dependence}
-use Rattle.graph.specs.Graphs.{GraphData, IsGraphOf}
+use Rattle.edges.specs.Graphs.{GraphData}
+use Rattle.graph.specs.Graphs.{IsGraphOf}
 use Rattle.graph.specs.Units.{opcodes_of, operations_of, alternatives_in}
 use Rattle.loop_schedules.specs.Problems.{IsProblemOf}
 use Rattle.schedules.specs.Problems as problems

@@ -3,8 +3,9 @@ use Rattle.std.proofs.Common.{◌≡◌, ◌⊎◌, ℕ, suc, ◌<◌, List, [],
 use Rattle.std.specs.List.{AllPairs, Contains}
 use Rattle.std.proofs.lemmas.Int.{ints}
 use Rattle.std.proofs.lemmas.List.Elements.{All-contains}
-use Rattle.graph.specs.Dependences.{EdgeData, Precedes, Dependence}
-use Rattle.graph.specs.Graphs.{GraphData}
+use Rattle.edges.specs.Edges.{EdgeData, Precedes}
+use Rattle.graph.specs.Dependences.{Dependence}
+use Rattle.edges.specs.Graphs.{GraphData}
 use Rattle.loop_schedules.specs.Problems.{ProblemData, IsProblem, without_loop}
 use Rattle.loop_schedules.specs.Promises.{OneProblem}
 use Rattle.schedules.specs.Problems as problems

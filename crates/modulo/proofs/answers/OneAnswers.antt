@@ -8,8 +8,8 @@ use Rattle.std.proofs.lemmas.Int.{ints}
 use Rattle.std.proofs.lemmas.List.{ext_get_or}
 use Rattle.std.proofs.lemmas.Option.{none-some, same_Some, slice_get-get_or}
 use Rattle.machine_data.specs.declared.alternative.Row.{Row}
-use Rattle.graph.specs.Dependences.{EdgeData}
-use Rattle.graph.specs.Walks.{IsHeight, length_of, AreHeights}
+use Rattle.edges.specs.Edges.{EdgeData}
+use Rattle.walks.specs.Walks.{IsHeight, length_of, AreHeights}
 use Rattle.mrt.specs.Placements.{OperationAlternatives, Placements, Placement, placement_of, IsFree, IsFirstSlot}
 use Rattle.modulo.specs.declared.outcome.attempts.Try.{Try}
 use Rattle.modulo.specs.declared.outcome.attempts.Try.TheVariants.{Placed, Failed}

@@ -10,10 +10,10 @@ use Rattle.std.proofs.lemmas.List.Elements.{Contains-get_or}
 use Rattle.std.proofs.lemmas.Option.{none-some, same_Some}
 use Rattle.machine_data.specs.declared.alternative.Row.{Row}
 use Rattle.machine_data.specs.Alternative.{residue_of, collides}
-use Rattle.graph.specs.Dependences.{EdgeData}
-use Rattle.graph.specs.Walks.{FitsCircuits, delay_of, distance_of}
-use Rattle.graph.specs.Schedules.{IsPlan, KeepsUnits, KeepsEdge, IsLawfulSchedule}
-use Rattle.graph.proofs.walks.Settling.{fits-at_longer}
+use Rattle.edges.specs.Edges.{EdgeData}
+use Rattle.walks.specs.Walks.{FitsCircuits, delay_of, distance_of}
+use Rattle.edges.specs.Schedules.{IsPlan, KeepsUnits, KeepsEdge, IsLawfulSchedule}
+use Rattle.walks.proofs.Settling.{fits-at_longer}
 use Rattle.mrt.specs.Placements.{Placement, placement_of, alternatives_of, rows_of, IsMetBy, IsFree, IsFirstSlot}
 use Rattle.mrt.specs.Taken.{Takes, AreApart, takes}
 use Rattle.mrt.proofs.searching.Taking.{takes_place, met_from_takes, unplaced_at_first}

@@ -2,7 +2,7 @@
 
 ghost use Rattle.std.specs.Prelude.{◌≡◌, ◌≤◌, ℕ, length, replicate, is_none, filter, None, IfOk};
 ghost use Rattle.std.specs.List.{range_with_len};
-ghost use Rattle.graph.specs.Schedules.{IsLawfulSchedule};
+ghost use Rattle.edges.specs.Schedules.{IsLawfulSchedule};
 ghost use Rattle.mrt.specs.Placements.{placement_of};
 ghost use Rattle.modulo.specs.Attempts.{IsBlocked, EndsPlaced};
 ghost use Rattle.modulo.specs.Culprits.{IsAnswer};

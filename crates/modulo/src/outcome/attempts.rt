@@ -1,7 +1,7 @@
 //! One attempt at an interval.
 
 ghost use Rattle.std.specs.Prelude.{◌≡◌, ◌≤◌, ℕ, length, replicate, None, IfOk};
-ghost use Rattle.graph.specs.Schedules.{IsLawfulSchedule};
+ghost use Rattle.edges.specs.Schedules.{IsLawfulSchedule};
 ghost use Rattle.schedules.specs.Problems.{IsProblem, mii_of};
 ghost use Rattle.modulo.specs.Attempts.{IsBlocked, EndsPlaced, AnswersAttempt};
 ghost use Rattle.machine_data.specs.declared.limits.TheConstants.{MAX_BUDGET, MAX_INTERVAL};
@@ -13,7 +13,7 @@ use schedules::{Problem, Schedule};
 use std::alloc::Global;
 
 /// Why an attempt at an interval found no schedule: the first of these causes that holds.
-#[derive(Clone, Copy, Debug, PartialEq, Eq)]
+#[derive(Clone, Copy, PartialEq, Eq)]
 pub enum Failure {
     /// All alternatives of some operation collide with themselves at the interval; nothing was placed.
     Table,
@@ -33,7 +33,7 @@ pub enum Try<'a> {
 }
 
 /// What keeps an attempt from a schedule.
-#[derive(Debug, Drop)]
+#[derive(Drop)]
 pub enum Culprit {
     /// The first operation all of whose alternatives collide with themselves at the interval.
     Blocked(usize),

@@ -2,14 +2,14 @@
 
 ghost use Rattle.std.specs.Prelude.{◌≡◌, ℕ, ◌+◌, ◌<◌, ◌≤◌, ◌^◌, length, IfSome};
 ghost use Rattle.std.specs.List.{All};
-ghost use Rattle.graph.specs.declared.dependence.edge.Edge.{Edge};
+ghost use Rattle.edges.specs.declared.edge.Edge.{Edge};
 ghost use Rattle.schedules.specs.Problems.{IsProblem};
 ghost use Rattle.modulo.specs.inner.Progress.{IsEarliestBy, AreBelow};
 ghost use Rattle.modulo.specs.Scheduling.{IsEarliest, forced_time};
 ghost use Rattle.machine_data.specs.declared.limits.TheConstants.{MAX_INTERVAL};
 
 use crate::stepping::progress::Progress;
-use graph::Edge;
+use edges::Edge;
 use schedules::{Problem, demand};
 
 /// The earliest time at which the edges from placed operations allow an operation.

@@ -1,7 +1,7 @@
 //! The steps of an attempt.
 
 ghost use Rattle.std.specs.Prelude.{◌≡◌, ℕ, ◌<◌, ◌≤◌, List, length, replicate, None, slice_index, IfOk};
-ghost use Rattle.graph.specs.Walks.{AreHeights};
+ghost use Rattle.walks.specs.Walks.{AreHeights};
 ghost use Rattle.mrt.specs.Placements.{alternatives_of};
 ghost use Rattle.schedules.specs.Problems.{mii_of};
 ghost use Rattle.modulo.specs.Scheduling.{IsFirstSound, Stops, empty};
@@ -23,7 +23,7 @@ pub(crate) fn start(alloc: Global, problem: &Problem, ii: u64) -> Result<Progres
     ensures empty { IfOk result (λ p. p.state ≡ empty (length problem.now.operations)) }
     ensures order { IfOk result (λ p. (heights : List ℕ) × AreHeights problem.now.graph ii heights × (length heights ≡ length problem.now.operations) × IsByHeight heights p.order) }
 {
-    let heights = graph::heights(alloc, problem.edges(), ii)?;
+    let heights = walks::heights(alloc, problem.edges(), ii)?;
     Progress::new(alloc, by_height(alloc, &heights)?)
 }
 

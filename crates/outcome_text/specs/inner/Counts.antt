@@ -1,7 +1,7 @@
 -- How many rows use each unit, told of all units at once.
 use Rattle.std.specs.Prelude.{◌≡◌, ℕ, ◌+◌, ◌<◌, List, length, slice_index}
 use Rattle.machine_data.specs.declared.alternative.Row.{Row}
-use Rattle.graph.specs.Units.{use_of}
+use Rattle.unit_bound.specs.Units.{use_of}
 use Rattle.outcome_text.specs.declared.units.TheConstants.{UNITS}
 
 -- the uses by these rows are added to those before

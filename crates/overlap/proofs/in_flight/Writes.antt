@@ -9,7 +9,7 @@ use Rattle.loop_data.specs.declared.language.statement.Statement.{Statement}
 use Rattle.loop_data.specs.declared.language.statement.Place.{Place}
 use Rattle.loop_data.specs.Loops.{HasShape}
 use Rattle.loop_data.specs.Run.{writes, first_of, cell_index}
-use Rattle.graph.specs.Schedules.{KeepsEdge}
+use Rattle.edges.specs.Schedules.{KeepsEdge}
 use Rattle.graph.specs.Promises.{KeepsDependences, issue_of}
 use Rattle.kernel.specs.Overlapped.{Target, InRegister, InCell, Write, physical}
 use Rattle.overlap.specs.Allotments.{AllotmentData, allotted_number}

@@ -10,7 +10,7 @@ use Rattle.loop_data.specs.declared.language.statement.Operand.TheVariants.{Cons
 use Rattle.loop_data.specs.Loops.{LoopData}
 use Rattle.graph.specs.Dependences.{Uses}
 use Rattle.graph.specs.Promises.{KeepsDependences, ValuesInTime}
-use Rattle.graph.specs.Units.{greatest_of}
+use Rattle.unit_bound.specs.Units.{greatest_of}
 use Rattle.loop_schedules.specs.Schedules.{ScheduleData, IsSchedule}
 use Rattle.overlap.specs.Lifetimes.{Use, distance_to, uses_from, uses_of, carried, landing_of, read_at, last_read, last_landing, first_cycle, last_cycle, values_from, values_of, rank_of}
 use Rattle.overlap.proofs.in_flight.Landing.{contains-cases, contains-head, contains-tail}

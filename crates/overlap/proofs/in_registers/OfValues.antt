@@ -8,7 +8,7 @@ use Rattle.registers.specs.declared.value.Read.{Read}
 use Rattle.registers.specs.Values as list
 use Rattle.registers.specs.Values.{reads_of, lives_from, lives_of}
 use Rattle.loop_data.specs.Loops.{LoopData}
-use Rattle.graph.specs.Units.{greatest_of}
+use Rattle.unit_bound.specs.Units.{greatest_of}
 use Rattle.loop_schedules.specs.Schedules.{ScheduleData}
 use Rattle.overlap.specs.Lifetimes.{Use, values_of, uses_of, is_out, carried, landing_of, read_at, last_read, first_cycle, lifetime_of, lifetimes_of}
 use Rattle.overlap.specs.LoopValues.{value_of_loop, reads_by, reads_from, reads_of_loop, end_of, LifetimesAreOfValues}

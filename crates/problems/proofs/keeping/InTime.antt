@@ -6,8 +6,8 @@ use Rattle.std.proofs.lemmas.Int.{ints}
 use Rattle.std.proofs.lemmas.List.{get_or-map, get_or_default, length-map}
 use Rattle.std.proofs.lemmas.List.Elements.{All-contains, Contains-append_left, Contains-append_right}
 use Rattle.std.proofs.lemmas.Option.{slice_get_within, get_or_from_slice_get}
-use Rattle.graph.specs.Dependences.{EdgeData}
-use Rattle.graph.specs.Schedules.{KeepsEdge}
+use Rattle.edges.specs.Edges.{EdgeData}
+use Rattle.edges.specs.Schedules.{KeepsEdge}
 use Rattle.registers.specs.declared.value.Read.{Read}
 use Rattle.registers.specs.declared.value.Value.{Value as PlainValue}
 use Rattle.registers.specs.Values.{AreReadInTime}

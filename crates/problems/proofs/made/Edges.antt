@@ -5,8 +5,8 @@ use Rattle.std.specs.List.{All}
 use Rattle.std.proofs.lemmas.Int.{ints}
 use Rattle.std.proofs.lemmas.List.{length-map}
 use Rattle.std.proofs.lemmas.List.Elements.{All-map, All-append}
-use Rattle.graph.specs.Dependences.{EdgeData}
-use Rattle.graph.specs.Graphs.{AreEdges}
+use Rattle.edges.specs.Edges.{EdgeData}
+use Rattle.edges.specs.Graphs.{AreEdges}
 use Rattle.problems.specs.declared.draft.Kind.{Kind}
 use Rattle.problems.specs.declared.draft.Value.{Value}
 use Rattle.problems.specs.declared.draft.Order.{Order}

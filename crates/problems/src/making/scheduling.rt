@@ -1,16 +1,16 @@
 //! What is scheduled of a draft.
 
 ghost use Rattle.std.specs.Prelude.{◌≡◌, ◌≤◌, IfOk};
-ghost use Rattle.graph.specs.Graphs.{IsGraphWith};
+ghost use Rattle.edges.specs.Graphs.{IsGraphWith};
 ghost use Rattle.problems.specs.Drafts.{IsWellFormed, edges_of, latencies_of, operations_of};
 ghost use Rattle.problems.specs.Problems.{IsSchedulingOf};
 ghost use Rattle.problems.specs.inner.Listed.{AreListed};
 ghost use Rattle.machine_data.specs.declared.limits.TheConstants.{MAX_CEILING, MAX_RATIO};
 
 use crate::draft::Draft;
-use crate::making::edges::edges_of;
+use crate::making::edge_list::edges_of;
 use crate::making::tables::{Tables, latencies_of, operations_of};
-use graph::Edges;
+use edges::Edges;
 use machine_data::OutOfMemory;
 use std::alloc::Global;
 
@@ -21,7 +21,7 @@ fn graph_of(alloc: Global, draft: &Draft) -> Result<Edges, OutOfMemory>
 {
     let edges = edges_of(alloc, draft)?;
     let cycles = latencies_of(alloc, draft)?;
-    match graph::given(alloc, edges.as_slice(), cycles)? {
+    match edges::given(alloc, edges.as_slice(), cycles)? {
         Some(graph) => Ok(graph),
         None => unreachable!(),
     }

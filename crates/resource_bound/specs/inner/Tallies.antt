@@ -2,8 +2,8 @@
 use Rattle.std.specs.Prelude.{ℕ, ◌++◌, List, []}
 use Rattle.std.specs.List.{slice_index_or}
 use Rattle.machine_data.specs.declared.alternative.Row.{Row}
-use Rattle.graph.specs.Units.{AreBest, IsBest, chosen_rows}
-use Rattle.graph.specs.Uses.{Tallies}
+use Rattle.unit_bound.specs.Units.{AreBest, IsBest, chosen_rows}
+use Rattle.unit_bound.specs.Uses.{Tallies}
 
 -- the choice is the best one after the rows taken, and the counters are those with its rows
 pub record TakesChoice (taken : List Row) (alternatives : List (List Row)) (choice : ℕ) (counts : List ℕ) (greatest : ℕ) : Type 0 where

@@ -8,7 +8,7 @@ use Rattle.loop_data.specs.declared.language.statement.Statement.{Statement}
 use Rattle.loop_data.specs.declared.language.statement.Operand.TheVariants.{Value}
 use Rattle.loop_data.specs.Loops.{LoopData, IsLoop, MayRead}
 use Rattle.loop_data.specs.Run.{initial_of}
-use Rattle.graph.specs.Units.{greatest_of}
+use Rattle.unit_bound.specs.Units.{greatest_of}
 use Rattle.loop_schedules.specs.Schedules.{ScheduleData}
 use Rattle.overlap.specs.Lifetimes.{Use, carried, is_out, uses_of, values_from, lifetime_of, lifetimes_of}
 use Rattle.overlap.specs.Allotments.{AllotmentData, IsAllotment}

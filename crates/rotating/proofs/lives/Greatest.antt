@@ -2,7 +2,7 @@
 use Rattle.std.proofs.Common.{◌≡◌, ℕ, suc, zero, ◌+◌, ◌*◌, ◌<◌, ◌≤◌, max, true, false, List, [], ◌∷◌, ◌++◌, length, get_or, map, drop, refl, sym, ap, ◌∙◌, arith}
 use Rattle.std.specs.Prelude.{is_some, filter_map}
 use Rattle.loop_data.specs.declared.language.statement.Statement.{Statement}
-use Rattle.graph.specs.Units.{greatest_of}
+use Rattle.unit_bound.specs.Units.{greatest_of}
 use Rattle.rotating.specs.inner.Uses.{greatest_in}
 use Rattle.overlap.specs.Lifetimes.{Use, distance_to, uses_from, values_from}
 

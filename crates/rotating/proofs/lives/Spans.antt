@@ -8,7 +8,7 @@ use Rattle.std.proofs.Math.Nat.{mul-le-mul_left, div-add-mod', mod-lt}
 use Rattle.loop_data.specs.declared.language.statement.Operand.TheVariants.{Value}
 use Rattle.loop_data.specs.Loops.{MayRead}
 use Rattle.graph.specs.Dependences.{Uses}
-use Rattle.graph.specs.Units.{greatest_of}
+use Rattle.unit_bound.specs.Units.{greatest_of}
 use Rattle.graph.proofs.finding.Promised.{values-in_time}
 use Rattle.overlap.specs.Lifetimes.{uses_of, is_out, landing_of, read_at, last_read, last_landing, lifetime_of, lifetimes_of, values_of}
 use Rattle.loop_schedules.specs.Schedules.{ScheduleData, IsSchedule, stages_of}

@@ -20,7 +20,7 @@ use std::marker::Model;
 /// An allotment of rotating registers: for each value of a schedule, in text order, the number of the
 /// register in which its instance of iteration 0 stands. The instance of iteration `j` stands in the
 /// register `number - j`, modulo the number of registers. Contracts see both as data.
-#[derive(Debug, Drop)]
+#[derive(Drop)]
 pub struct Allotment {
     registers: u64,
     numbers: Vec<usize>,
@@ -123,7 +123,7 @@ pub fn allot(
 }
 
 /// Registers for all values, or the first value that has none.
-#[derive(Debug, Drop)]
+#[derive(Drop)]
 pub enum Allotted {
     /// The allotment that [`allot`] finds.
     All(Allotment),

@@ -1,7 +1,7 @@
 //! How long values live.
 
 ghost use Rattle.std.specs.Prelude.{◌≡◌, ◌<◌, ◌≤◌, ◌+◌, ◌*◌, [], max, length, map, take, IfOk, if◌then◌else◌, vec_len, vec_capacity};
-ghost use Rattle.graph.specs.Units.{greatest_of};
+ghost use Rattle.unit_bound.specs.Units.{greatest_of};
 ghost use Rattle.loop_schedules.specs.Schedules.{IsSchedule, stages_of};
 ghost use Rattle.overlap.specs.Lifetimes.{carried, first_cycle, is_out, landing_of, last_landing, lifetime_of, lifetimes_of, read_at, uses_of};
 

@@ -2,7 +2,7 @@
 
 ghost use Rattle.std.specs.Prelude.{◌≡◌, ◌<◌, ◌≤◌, ℕ, max, length, map, slice_index, ◌==◌, if◌then◌else◌};
 ghost use Rattle.std.specs.List.{list_any};
-ghost use Rattle.graph.specs.Units.{greatest_of};
+ghost use Rattle.unit_bound.specs.Units.{greatest_of};
 ghost use Rattle.loop_data.specs.Loops.{IsLoop};
 ghost use Rattle.overlap.specs.Lifetimes.{Use, carried, is_out, read_at, uses_of};
 ghost use Rattle.rotating.specs.inner.Naming.{AreCarried};

@@ -7,8 +7,8 @@ use Rattle.std.proofs.lemmas.List.{get_or_default, length-map}
 use Rattle.std.proofs.lemmas.Option.{same_Some, slice_get_within, get_or_from_slice_get}
 use Rattle.machine_data.specs.declared.alternative.Row.{Row}
 use Rattle.machine_data.specs.Alternative.{residue_of, rows_meet}
-use Rattle.graph.specs.Dependences.{EdgeData}
-use Rattle.graph.specs.Schedules.{KeepsEdge, KeepsUnits, issued_rows}
+use Rattle.edges.specs.Edges.{EdgeData}
+use Rattle.edges.specs.Schedules.{KeepsEdge, KeepsUnits, issued_rows}
 use Rattle.mrt.specs.Placements.{OperationAlternatives, Placements, rows_of}
 use Rattle.schedules.specs.declared.breach.Breach.{Breach}
 use Rattle.schedules.specs.declared.breach.Breach.TheVariants.{Count, Time, Alternative, Slot, Edge, Stage}

@@ -9,7 +9,7 @@ use Rattle.std.proofs.lemmas.Option.{none-some, same_Some, slice_get-get_or, sli
 use Rattle.std.proofs.Math.Nat.{add-mod-mod}
 use Rattle.machine_data.specs.declared.alternative.Row.{Row}
 use Rattle.machine_data.specs.Alternative.{residue_of, rows_meet, collides}
-use Rattle.graph.specs.Schedules.{KeepsUnits, issued_rows}
+use Rattle.edges.specs.Schedules.{KeepsUnits, issued_rows}
 use Rattle.mrt.specs.Placements.{OperationAlternatives, Placements, Placement, placement_of, alternatives_of, rows_of, IsFree, IsHolder}
 use Rattle.mrt.specs.Taken.{AreApart}
 use Rattle.mrt.proofs.searching.Scheduling.{AreApart-claimed, fits_from_no_holders}

@@ -3,7 +3,7 @@ use Rattle.std.proofs.Common.{◌+◌, ◌*◌, ℕ, zero, suc, ◌/◌, ◌<◌
 use Rattle.std.specs.List.{All, slice_index}
 use Rattle.std.proofs.lemmas.List.Elements.{All-head, All-tail}
 use Rattle.std.proofs.Math.Nat.{lt-mul-div-succ, mul-le-mul}
-use Rattle.graph.specs.Units.{greatest_of}
+use Rattle.unit_bound.specs.Units.{greatest_of}
 use Rattle.schedules.specs.Schedules.{ScheduleData, IsSchedule}
 use Rattle.schedules.specs.Promises.{StagesAreFew}
 

@@ -3,7 +3,7 @@
 use schedules::Breach;
 
 /// What lists of places and numbers break first, where they are no solution. Numbers count from 0.
-#[derive(Clone, Copy, Debug, PartialEq, Eq)]
+#[derive(Clone, Copy, PartialEq, Eq)]
 pub enum Broken {
     /// The interval is not 1 to 16,384 cycles.
     Interval,

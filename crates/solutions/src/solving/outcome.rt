@@ -3,7 +3,7 @@
 use crate::solution::Solution;
 
 /// Why an interval gives no solution, in the order in which the causes are tested.
-#[derive(Clone, Copy, Debug, PartialEq, Eq)]
+#[derive(Clone, Copy, PartialEq, Eq)]
 pub enum Cause {
     /// All alternatives of some operation collide with themselves.
     Table,

@@ -9,7 +9,7 @@ use crate::solving::outcome::Cause;
 use modulo::Culprit;
 
 /// Why an interval gives no solution, and who keeps it from one.
-#[derive(Debug, Drop)]
+#[derive(Drop)]
 pub struct Failure {
     /// The cause.
     pub cause: Cause,

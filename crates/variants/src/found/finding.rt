@@ -4,7 +4,7 @@ ghost use Rattle.std.specs.Prelude.{◌≡◌};
 ghost use Rattle.variants.specs.Texts.{is_met};
 
 /// What a loop has on the machine as it is.
-#[derive(Clone, Copy, Debug, PartialEq, Eq)]
+#[derive(Clone, Copy, PartialEq, Eq)]
 pub enum Standing {
     /// No interval gives a kernel.
     Failed,
@@ -13,7 +13,7 @@ pub enum Standing {
 }
 
 /// What a loop has on a variant of the machine.
-#[derive(Clone, Copy, Debug, PartialEq, Eq)]
+#[derive(Clone, Copy, PartialEq, Eq)]
 pub enum Finding {
     /// The variant passes a limit.
     Limit,

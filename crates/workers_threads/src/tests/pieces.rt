@@ -3,7 +3,7 @@
 use super::given::{MACHINE, SUM, named};
 use candidates::{Listing, Settings, listing_text, write_row};
 use loop_schedules::Prepared;
-use loops::{Loop, LoopFault, LoopFaultKind, read_loops};
+use loops::{Loop, LoopFault, LoopFaultKind, read_loops, write_loop};
 use machine::{Machine, OutOfMemory, read_machine};
 use std::alloc::Global;
 use std::process::Abort;
@@ -31,9 +31,22 @@ fn sums(rt: &impl Abort, alloc: Global, times: usize, lines: &str) -> String {
     text
 }
 
-/// How loops are printed, or their fault.
+/// The canonical texts of loops.
+fn written(rt: &impl Abort, alloc: Global, loops: &[Loop]) -> String {
+    let mut text = String::new(alloc);
+    for innermost in loops {
+        let one = write_loop(alloc, innermost).expect(rt, "memory");
+        text.push_str(one.as_str()).expect(rt, "memory");
+    }
+    text
+}
+
+/// The canonical texts of loops, or their fault.
 fn shown(rt: &impl Abort, alloc: Global, read: Result<Vec<Loop>, LoopFault>) -> String {
-    format!(in alloc; "{read:?}").expect(rt, "memory")
+    match read {
+        Ok(loops) => written(rt, alloc, loops.as_slice()),
+        Err(fault) => format!(in alloc; "{fault}").expect(rt, "memory"),
+    }
 }
 
 /// As many workers read of the text what one thread reads.
@@ -66,8 +79,8 @@ fn workers_read_what_one_thread_reads(rt: HostRuntime) {
 /// Three workers find this fault in three loops of a sum with these lines after them.
 fn is_told<R: Threads + Abort + Sync>(rt: &R, alloc: Global, lines: &str, wanted: LoopFault) {
     let text = sums(rt, alloc, 3, lines);
-    let fault = read_by_workers(rt, alloc, text.as_bytes(), 3).expect_err(rt, "no fault");
-    assert_eq!(rt; fault, wanted);
+    let read = read_by_workers(rt, alloc, text.as_bytes(), 3);
+    assert!(rt; matches!(read, Err(fault) if fault == wanted));
 }
 
 // Where loops of two pieces have one name, the fault is that of the later one, with its line in the text.

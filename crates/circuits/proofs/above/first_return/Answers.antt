@@ -1,6 +1,6 @@
 use Rattle.std.proofs.Common.{◌∙◌, pos, refl, sym, subst}
 use Rattle.std.proofs.lemmas.List.{take_all}
-use Rattle.graph.specs.Dependences.{EdgeData}
+use Rattle.edges.specs.Edges.{EdgeData}
 use Rattle.circuits.proofs.Returns.{GoesOnOnce, once-more, return-found}
 use Rattle.circuits.proofs.above.first_return.Goals as goal
 

@@ -1,6 +1,6 @@
 use Rattle.std.proofs.Common.{◌≢◌, take}
 use Rattle.std.specs.List.{AllPairs}
-use Rattle.graph.specs.Dependences.{EdgeData}
+use Rattle.edges.specs.Edges.{EdgeData}
 use Rattle.circuits.proofs.above.first_return.Given as goal
 
 abbrev pub invariant-loop-end : goal.invariant-loop-end

@@ -1,10 +1,10 @@
 use Rattle.std.proofs.Common.{rules, ◌≡◌, ◌+◌, ◌<◌, ◌≤◌, List, [], ◌∷◌, ◌++◌, length, sym, ap, ◌∙◌, subst, arith}
 use Rattle.std.proofs.lemmas.List.{length-append}
 use Rattle.std.proofs.lemmas.List.Elements.{All-contains}
-use Rattle.graph.specs.Dependences.{EdgeData}
-use Rattle.graph.specs.Graphs.{IsGraph}
-use Rattle.graph.proofs.walks.Sweeps.{via-edge}
-use Rattle.graph.specs.Walks.{IsWalk}
+use Rattle.edges.specs.Edges.{EdgeData}
+use Rattle.edges.specs.Graphs.{IsGraph}
+use Rattle.walks.proofs.Sweeps.{via-edge}
+use Rattle.walks.specs.Walks.{IsWalk}
 use Rattle.circuits.specs.inner.Sweeps.{GoesRoundOnce}
 use Rattle.circuits.proofs.Rings.{IsAlongFirst, along-none, along-more, goes-round}
 use Rattle.circuits.proofs.first_edges.around.Goals as goal

@@ -1,6 +1,6 @@
 use Rattle.std.proofs.Common.{◌*◌, ◌≤◌, pos, length, subst, sym}
 use Rattle.std.specs.Prelude.{◌<ℤ◌, IfSome}
-use Rattle.graph.specs.Walks.{delay_of, distance_of}
+use Rattle.walks.specs.Walks.{delay_of, distance_of}
 use Rattle.circuits.specs.inner.Sweeps.{GoesRoundOnce}
 use Rattle.circuits.proofs.first_edges.circuit_through.Goals as goal
 

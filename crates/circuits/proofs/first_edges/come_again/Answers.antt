@@ -1,8 +1,8 @@
 use Rattle.std.proofs.Common.{rules, ◌≡◌, ◌<◌, ◌≤◌, length, arith}
 use Rattle.std.proofs.lemmas.List.Elements.{All-contains}
-use Rattle.graph.specs.Dependences.{EdgeData}
-use Rattle.graph.specs.Graphs.{IsGraph}
-use Rattle.graph.proofs.walks.Sweeps.{via-edge}
+use Rattle.edges.specs.Edges.{EdgeData}
+use Rattle.edges.specs.Graphs.{IsGraph}
+use Rattle.walks.proofs.Sweeps.{via-edge}
 use Rattle.circuits.proofs.first_edges.come_again.Goals as goal
 
 pub loop-step-preserved : goal.loop-step-preserved

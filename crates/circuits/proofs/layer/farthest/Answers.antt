@@ -4,8 +4,8 @@ use mir.Val.{SFits}
 use Rattle.std.proofs.lemmas.Int.{ints, to_z-of_z}
 use Rattle.std.proofs.lemmas.List.{take_more, take_all}
 use lib.IntN.{nat_abs}
-use Rattle.graph.specs.Dependences.{EdgeData}
-use Rattle.graph.proofs.walks.Raises.{less-from_test, no_less-from_test, pos-nat_abs}
+use Rattle.edges.specs.Edges.{EdgeData}
+use Rattle.walks.proofs.Raises.{less-from_test, no_less-from_test, pos-nat_abs}
 use Rattle.circuits.specs.inner.Layers.{IsFarthest}
 use Rattle.circuits.proofs.Farthest.{farthest-none, farthest-longer, farthest-kept}
 use Rattle.circuits.proofs.layer.farthest.Goals as goal

@@ -1,6 +1,6 @@
 use Rattle.std.proofs.Common.{◌≡◌, ℕ, ◌+◌, ◌<◌, ◌≤◌, set, length, get_or, ◌∙◌, subst, arith}
 use Rattle.std.proofs.Math.ListN.{length-set}
-use Rattle.graph.specs.Graphs.{IsGraph}
+use Rattle.edges.specs.Graphs.{IsGraph}
 use Rattle.circuits.specs.inner.Layers.{IsFarthest}
 use Rattle.circuits.proofs.Layers.{IsFarthestAt, IsLongerAt, layer-more, longer-here, longer-kept, short-targets}
 use Rattle.circuits.proofs.layer.longer_walks.Goals as goal

@@ -1,7 +1,7 @@
 use Rattle.std.proofs.Common.{◌≡◌, ◌<◌, ◌+◌, ◌∙◌, pos, ◌+ℤ◌, length, get_or, take, sym, ap, arith}
 use Rattle.std.proofs.lemmas.Int.{ints}
-use Rattle.graph.specs.Dependences.{EdgeData}
-use Rattle.graph.specs.Walks.{delay_of, distance_of}
+use Rattle.edges.specs.Edges.{EdgeData}
+use Rattle.walks.specs.Walks.{delay_of, distance_of}
 use Rattle.circuits.proofs.WalkSums.{delay-more, distance-more}
 use Rattle.circuits.proofs.sums.sums_of.Goals as goal
 

@@ -1,6 +1,6 @@
 use Rattle.std.proofs.Common.{◌≡◌, ◌*◌, ◌≤◌, pos, ◌-ℤ◌, take}
 use Rattle.std.specs.Prelude.{◌≤ℤ◌}
-use Rattle.graph.specs.Walks.{delay_of, distance_of}
+use Rattle.walks.specs.Walks.{delay_of, distance_of}
 use Rattle.circuits.proofs.sums.sums_of.Given as goal
 
 abbrev pub invariant-loop-edge : goal.invariant-loop-edge

@@ -1,7 +1,7 @@
 use Rattle.std.proofs.Common.{rules, ◌≡◌, ℕ, ◌+◌, ◌-◌, ◌*◌, ◌<◌, ◌≤◌, length, get_or, ◌∙◌, subst, arith}
 use Rattle.std.proofs.Math.ListN.{length-set}
-use Rattle.graph.specs.Graphs.{IsGraph}
-use Rattle.graph.proofs.walks.Sweeps.{fits-from_kept_numbers, keeps-from_each}
+use Rattle.edges.specs.Graphs.{IsGraph}
+use Rattle.walks.proofs.Sweeps.{fits-from_kept_numbers, keeps-from_each}
 use Rattle.circuits.specs.inner.Layers.{IsFarthest}
 use Rattle.circuits.proofs.Layers.{IsFarthestAt, short-targets}
 use Rattle.circuits.proofs.Sweeping.{reach-short, short-more, short-set, first-set, keep-more}

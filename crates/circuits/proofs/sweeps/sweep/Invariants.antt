@@ -1,5 +1,5 @@
 use Rattle.std.proofs.Common.{◌≡◌, ◌+◌, ◌-◌, ◌*◌, ◌≤◌, false, length}
-use Rattle.graph.proofs.walks.Sweeps.{KeepFrom}
+use Rattle.walks.proofs.Sweeps.{KeepFrom}
 use Rattle.circuits.specs.inner.Sweeps.{AreFirst, AreShort}
 use Rattle.circuits.proofs.sweeps.sweep.Given as goal
 

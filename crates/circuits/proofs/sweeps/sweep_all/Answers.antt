@@ -1,6 +1,6 @@
 use Rattle.std.proofs.Common.{◌≡◌, get_or, arith}
 use Rattle.std.proofs.Math.ListN.{replicate}
-use Rattle.graph.proofs.walks.Sweeps.{vias-none}
+use Rattle.walks.proofs.Sweeps.{vias-none}
 use Rattle.circuits.proofs.Farthest.{zeros}
 use Rattle.circuits.proofs.sweeps.sweep_all.Goals as goal
 

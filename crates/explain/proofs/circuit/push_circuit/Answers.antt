@@ -1,8 +1,8 @@
 use Rattle.std.proofs.Common.{◌≡◌, ◌==◌, List, length, vec_len, sym, ap, ◌∙◌, subst, arith}
 use Rattle.std.specs.List.{All}
 use Rattle.loop_data.specs.Loops.{IsLoop, LoopData}
-use Rattle.graph.specs.Dependences.{EdgeData}
-use Rattle.graph.specs.Graphs.{GraphData}
+use Rattle.edges.specs.Edges.{EdgeData}
+use Rattle.edges.specs.Graphs.{GraphData}
 use Rattle.graph_text.specs.Kinds.{IsTimed}
 use Rattle.explain.proofs.Circuits.{circuit-part, circuit-short, circuit-timed, critical-of}
 use Rattle.explain.proofs.circuit.push_circuit.Goals as goal

@@ -1,5 +1,5 @@
 use Rattle.std.proofs.Common.{◌++◌, pos, get_or}
-use Rattle.graph.specs.Dependences.{EdgeData}
+use Rattle.edges.specs.Edges.{EdgeData}
 use Rattle.graph_text.specs.Edges.{edge_line}
 use Rattle.graph_text.proofs.KindRules.{from-within, to-within}
 use Rattle.lower_bounds.proofs.Texts.{texts-more}

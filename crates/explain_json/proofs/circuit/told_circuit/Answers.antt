@@ -2,7 +2,7 @@ use Rattle.std.proofs.Common.{◌≡◌, ◌==◌, ℕ, List, [], ◌∷◌, fal
 use Rattle.std.specs.Prelude.{IfOk}
 use Rattle.serde_json.specs.Data.{Data}
 use Rattle.serde_json.specs.View.{view}
-use Rattle.graph.specs.Dependences.{EdgeData}
+use Rattle.edges.specs.Edges.{EdgeData}
 use Rattle.explain_json.specs.Edges.{circuit_value}
 use Rattle.explain_json.specs.inner.Objects.{circuit_object}
 use Rattle.explain_json.proofs.circuit.told_circuit.Goals as goal

@@ -1,7 +1,7 @@
 use Rattle.std.proofs.Common.{rules, ◌≡◌, ◌∙◌, List, ap, subst, IfOk}
 use Rattle.serde_json.specs.View.{members_view, view}
-use Rattle.graph.specs.Dependences.{EdgeData}
-use Rattle.graph.specs.Walks.{delay_of}
+use Rattle.edges.specs.Edges.{EdgeData}
+use Rattle.walks.specs.Walks.{delay_of}
 use Rattle.explain_json.specs.Edges.{place_of}
 use Rattle.explain_json.specs.Parts.{array_of, count_value, integer_value}
 use Rattle.explain_json.proofs.circuit.told_sums.Goals as goal

@@ -4,7 +4,7 @@ use Rattle.std.proofs.lemmas.Result.{on_ok_weaker}
 use Rattle.serde_json.specs.View.{members_view, view}
 use Rattle.serde_json.specs.Written.{compact_text}
 use Rattle.loop_data.specs.Loops.{LoopData}
-use Rattle.graph.specs.Graphs.{GraphData}
+use Rattle.edges.specs.Graphs.{GraphData}
 use Rattle.graph_text.specs.Kinds.{IsTimed}
 use Rattle.explain_json.specs.Edges.{IsEdgeObject}
 use Rattle.explain_json.specs.Loops.{Given, members_of, object_of, object_with}

@@ -1,5 +1,5 @@
 use Rattle.std.proofs.Common.{◌≤◌, ◌∙◌, ℕ, List, length, ap, sym, subst}
-use Rattle.graph.specs.Dependences.{EdgeData}
+use Rattle.edges.specs.Edges.{EdgeData}
 use Rattle.explain_json.specs.Loops.{IsLoopJson}
 use Rattle.explain.proofs.Circuits.{circuit-short, critical-of}
 use Rattle.explain_printouts.proofs.object.push_object.Goals as goal

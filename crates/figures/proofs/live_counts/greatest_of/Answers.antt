@@ -1,8 +1,8 @@
 use Rattle.std.proofs.Common.{max, take, get_or, sym, ap, ◌∙◌}
 use Rattle.std.proofs.lemmas.List.{take_more}
-use Rattle.graph.specs.Units.{greatest_of}
-use Rattle.graph.proofs.unit_bound.Most.{greater}
-use Rattle.graph.proofs.unit_bound.Tally.{greatest_of-push}
+use Rattle.unit_bound.specs.Units.{greatest_of}
+use Rattle.unit_bound.proofs.Most.{greater}
+use Rattle.unit_bound.proofs.Tally.{greatest_of-push}
 use Rattle.figures.proofs.live_counts.greatest_of.Goals as goal
 
 pub loop-count-preserved : goal.loop-count-preserved

@@ -1,5 +1,5 @@
 use Rattle.std.proofs.Common.{◌≡◌, take}
-use Rattle.graph.specs.Units.{greatest_of}
+use Rattle.unit_bound.specs.Units.{greatest_of}
 use Rattle.figures.proofs.live_counts.greatest_of.Given as goal
 
 abbrev pub invariant-loop-count : goal.invariant-loop-count

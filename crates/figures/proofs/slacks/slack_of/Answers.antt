@@ -1,8 +1,8 @@
 use Rattle.std.proofs.Common.{◌≡◌, ℕ, ◌+◌, ◌-◌, ◌≤◌, pos, eqb, List, ◌++◌, ◌∷◌, [], get_or, take, filter, min, sym, ap, ◌∙◌, subst, arith}
 use Rattle.std.specs.Prelude.{slice_index}
 use Rattle.std.proofs.lemmas.List.{take_all, take_more}
-use Rattle.graph.specs.Dependences.{EdgeData}
-use Rattle.graph.specs.Graphs.{GraphData}
+use Rattle.edges.specs.Edges.{EdgeData}
+use Rattle.edges.specs.Graphs.{GraphData}
 use Rattle.loop_schedules.specs.Problems.{ProblemData}
 use Rattle.overlap.specs.Lifetimes.{last_landing}
 use Rattle.figures.proofs.Later.{IsSlackBy, all-out, is-latent, is-timed, landing-at, slack-end, slack-init, slack-kept, slack-lowered}

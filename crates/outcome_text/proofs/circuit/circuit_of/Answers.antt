@@ -1,8 +1,8 @@
 use Rattle.std.proofs.Common.{ℕ, ◌-◌, List, Option, Vec, Global, subst}
 use Rattle.std.specs.Prelude.{MatchOption}
-use Rattle.graph.specs.Dependences.{EdgeData}
-use Rattle.graph.specs.Graphs.{GraphData}
-use Rattle.graph.specs.Walks.{FitsCircuits}
+use Rattle.edges.specs.Edges.{EdgeData}
+use Rattle.edges.specs.Graphs.{GraphData}
+use Rattle.walks.specs.Walks.{FitsCircuits}
 use Rattle.circuits.specs.Circuits.{IsCircuitAbove}
 use Rattle.outcome_text.proofs.Circuits.{is-short}
 use Rattle.outcome_text.proofs.circuit.circuit_of.Goals as goal

@@ -1,5 +1,5 @@
 use Rattle.std.proofs.Common.{ℕ, ◌*◌, ◌<◌, ◌≤◌, slice_index, take}
-use Rattle.graph.specs.Units.{chosen_rows}
+use Rattle.unit_bound.specs.Units.{chosen_rows}
 use Rattle.outcome_text.specs.inner.Counts.{AreUses}
 use Rattle.outcome_text.proofs.units.count_uses.Given as goal
 

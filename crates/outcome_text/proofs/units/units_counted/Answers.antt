@@ -2,7 +2,7 @@ use Rattle.std.proofs.Common.{◌≡◌, ℕ, ◌==◌, Bool, cond, List, [], �
 use Rattle.std.specs.List.{range_with_len}
 use Rattle.std.proofs.lemmas.Bool.{eq-eqb, ne_eqb}
 use Rattle.std.proofs.lemmas.List.{append-nil}
-use Rattle.graph.specs.Units.{use_of}
+use Rattle.unit_bound.specs.Units.{use_of}
 use Rattle.modulo.proofs.answers.Blaming.{filter-next}
 use Rattle.outcome_text.proofs.units.units_counted.Goals.{then-count-uses+in_ok-push, else-count-uses}
 use Rattle.outcome_text.proofs.units.units_counted.Goals as goal

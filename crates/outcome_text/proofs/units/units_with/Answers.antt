@@ -1,4 +1,4 @@
-use Rattle.graph.specs.Units.{chosen_rows}
+use Rattle.unit_bound.specs.Units.{chosen_rows}
 use Rattle.circuits.proofs.Farthest.{zeros}
 use Rattle.outcome_text.proofs.units.units_with.Goals as goal
 

@@ -1,5 +1,5 @@
 use Rattle.std.proofs.Common.{◌≡◌, ◌<◌, ◌≤◌, length, ap, ◌∙◌, arith}
-use Rattle.graph.specs.Units.{use_of}
+use Rattle.unit_bound.specs.Units.{use_of}
 use Rattle.outcome_text.proofs.Uses.{use-more}
 use Rattle.outcome_text.proofs.units.use_of.Goals as goal
 

@@ -1,5 +1,5 @@
 use Rattle.std.proofs.Common.{◌≡◌, ◌*◌, ◌≤◌, take}
-use Rattle.graph.specs.Units.{chosen_rows, use_of}
+use Rattle.unit_bound.specs.Units.{chosen_rows, use_of}
 use Rattle.outcome_text.proofs.units.use_of.Given as goal
 
 abbrev pub invariant-loop-number : goal.invariant-loop-number

@@ -1,5 +1,5 @@
 use Rattle.std.proofs.Common.{Bool, List, pos, ◌++◌, ap, ◌∙◌, subst}
-use Rattle.graph.specs.Dependences.{EdgeData}
+use Rattle.edges.specs.Edges.{EdgeData}
 use Rattle.problems.specs.declared.draft.Order.{Order}
 use Rattle.problems.specs.Drafts.{order_edge}
 use Rattle.problem_graphs.specs.declared.whys.Why.TheVariants as why

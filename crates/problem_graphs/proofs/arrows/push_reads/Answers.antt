@@ -1,5 +1,5 @@
 use Rattle.std.proofs.Common.{Bool, List, ◌++◌, get_or, ap, ◌∙◌, subst}
-use Rattle.graph.specs.Dependences.{EdgeData}
+use Rattle.edges.specs.Edges.{EdgeData}
 use Rattle.registers.specs.declared.value.Read.{Read}
 use Rattle.problems.specs.Drafts.{read_edge}
 use Rattle.problem_graphs.specs.declared.whys.Why.TheVariants.{Value}

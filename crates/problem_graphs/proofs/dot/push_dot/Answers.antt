@@ -1,6 +1,6 @@
 use Rattle.std.proofs.Common.{◌≡◌, ℕ, List, ◌++◌, ap, ◌∙◌, subst}
 use Rattle.std.proofs.lemmas.Result.{on_ok_weaker}
-use Rattle.graph.specs.Dependences.{EdgeData}
+use Rattle.edges.specs.Edges.{EdgeData}
 use Rattle.schedules.specs.Problems.{ProblemData as SchedulingData}
 use Rattle.problems.specs.declared.draft.Draft.{Draft}
 use Rattle.problem_graphs.specs.declared.arrows.Look.TheVariants.{Plain}

@@ -1,5 +1,5 @@
 use Rattle.std.proofs.Common.{pos, refl}
-use Rattle.graph.specs.Dependences.{EdgeData}
+use Rattle.edges.specs.Edges.{EdgeData}
 use Rattle.problem_graphs.specs.Edges.{edge_line}
 use Rattle.lower_bounds.proofs.Texts.{text-next}
 use Rattle.problem_reasons.specs.CircuitTexts.{IsWhy}

@@ -1,6 +1,6 @@
 use Rattle.std.proofs.Common.{◌≡◌, ℕ, List, ◌++◌, ap, ◌∙◌}
 use Rattle.machine_data.specs.declared.alternative.Row.{Row}
-use Rattle.graph.specs.Units.{chosen_rows, use_of}
+use Rattle.unit_bound.specs.Units.{chosen_rows, use_of}
 use Rattle.schedules.specs.Problems.{ProblemData as SchedulingData}
 use Rattle.lower_bounds.proofs.Texts.{numbered-more}
 use Rattle.problem_reasons.specs.Units.{line_with, unit_line}

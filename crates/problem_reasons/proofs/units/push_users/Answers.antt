@@ -1,6 +1,6 @@
 use Rattle.std.proofs.Common.{◌≡◌, ℕ, List, ◌++◌, ap, ◌∙◌}
 use Rattle.machine_data.specs.declared.alternative.Row.{Row}
-use Rattle.graph.specs.Units.{use_of}
+use Rattle.unit_bound.specs.Units.{use_of}
 use Rattle.schedules.specs.Problems.{ProblemData as SchedulingData}
 use Rattle.resource_bound.specs.Choices.{rows_at}
 use Rattle.problems.specs.declared.draft.Draft.{Draft}

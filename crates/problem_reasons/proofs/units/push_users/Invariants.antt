@@ -1,6 +1,6 @@
 use Rattle.std.proofs.Common.{◌≡◌, ◌++◌}
 use Rattle.std.specs.List.{flat_map, range_with_len}
-use Rattle.graph.specs.Units.{use_of}
+use Rattle.unit_bound.specs.Units.{use_of}
 use Rattle.resource_bound.specs.Choices.{rows_at}
 use Rattle.problem_reasons.specs.Units.{user_text}
 use Rattle.problem_reasons.proofs.units.push_users.Given as goal

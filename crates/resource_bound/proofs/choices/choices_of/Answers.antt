@@ -1,8 +1,8 @@
 use Rattle.std.proofs.Common.{◌≡◌, ◌+◌, ◌*◌, ◌-◌, ◌<◌, ◌≤◌, ◌++◌, ℕ, List, length, take, drop, sym, ap, ◌∙◌, subst, arith}
 use Rattle.std.proofs.lemmas.List.{take_at}
 use Rattle.machine_data.specs.declared.alternative.Row.{Row}
-use Rattle.graph.specs.Uses.{AtMost}
-use Rattle.graph.proofs.unit_bound.Passes.{passes}
+use Rattle.unit_bound.specs.Uses.{AtMost}
+use Rattle.unit_bound.proofs.Passes.{passes}
 use Rattle.resource_bound.specs.inner.Tallies.{HasChosen}
 use Rattle.resource_bound.proofs.Among.{passed}
 use Rattle.resource_bound.proofs.Chosen.{chosen-pass, choices-past}

@@ -1,6 +1,6 @@
 use Rattle.std.proofs.Common.{◌≡◌, ◌*◌, ◌-◌, ◌<◌, length}
-use Rattle.graph.specs.Uses.{AtMost}
-use Rattle.graph.proofs.unit_bound.Passes.{passes}
+use Rattle.unit_bound.specs.Uses.{AtMost}
+use Rattle.unit_bound.proofs.Passes.{passes}
 use Rattle.resource_bound.specs.inner.Tallies.{HasChosen}
 use Rattle.resource_bound.proofs.Among.{passed}
 use Rattle.resource_bound.proofs.choices.choices_of.Given as goal

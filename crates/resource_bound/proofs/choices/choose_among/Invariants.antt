@@ -1,6 +1,6 @@
 use Rattle.std.proofs.Common.{◌≡◌, ◌≢◌, ℕ, ◌+◌, ◌*◌, ◌-◌, ◌==◌, List, ◌++◌, length, take, filter}
 use Rattle.machine_data.specs.declared.alternative.Row.{Row}
-use Rattle.graph.specs.Uses.{AtMost}
+use Rattle.unit_bound.specs.Uses.{AtMost}
 use Rattle.resource_bound.specs.Choices.{choices_among}
 use Rattle.resource_bound.specs.inner.Tallies.{HasChosen}
 use Rattle.resource_bound.proofs.choices.choose_among.Given as goal

@@ -4,7 +4,7 @@ use Rattle.std.proofs.lemmas.List.{take_all, take_more}
 use Rattle.std.proofs.lemmas.List.Elements.{All-nil, All-cons, All-append}
 use Rattle.machine_data.specs.declared.alternative.Row.{Row}
 use Rattle.machine_data.specs.Alternative.{AreAlternatives}
-use Rattle.graph.proofs.unit_bound.Most.{greater}
+use Rattle.unit_bound.proofs.Most.{greater}
 use Rattle.resource_bound.proofs.choices.most_alternatives.Goals as goal
 
 pub loop-number-preserved : goal.loop-number-preserved

@@ -1,5 +1,5 @@
 use Rattle.graph.specs.Units.{operations_of}
-use Rattle.graph.proofs.unit_bound.UnitBound.{operations_well_formed}
+use Rattle.graph.proofs.finding.Operations.{operations_well_formed}
 use Rattle.resource_bound.proofs.Fullest.{fullest_is_bound}
 use Rattle.resource_bound.proofs.laws.fullest_use_is_bound.Goals as goal
 

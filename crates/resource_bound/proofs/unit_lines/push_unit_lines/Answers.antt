@@ -1,6 +1,7 @@
 use Rattle.std.proofs.Common.{◌≡◌, ◌<◌, ◌≤◌, List, ◌++◌, length, get_or, ap, ◌∙◌, arith}
 use Rattle.machine_data.specs.declared.alternative.Row.{Row}
-use Rattle.graph.specs.Units.{chosen_rows, greatest_use, operations_of, use_of}
+use Rattle.unit_bound.specs.Units.{chosen_rows, greatest_use, use_of}
+use Rattle.graph.specs.Units.{operations_of}
 use Rattle.lower_bounds.proofs.Texts.{numbered-more}
 use Rattle.resource_bound.specs.UnitLines.{line_with, unit_line}
 use Rattle.resource_bound.proofs.unit_lines.push_unit_lines.Goals as goal

@@ -1,5 +1,6 @@
 use Rattle.std.proofs.Common.{◌++◌, ap, ◌∙◌}
-use Rattle.graph.specs.Units.{operations_of, use_of}
+use Rattle.unit_bound.specs.Units.{use_of}
+use Rattle.graph.specs.Units.{operations_of}
 use Rattle.lower_bounds.proofs.Texts.{numbered-more}
 use Rattle.resource_bound.specs.Choices.{rows_at}
 use Rattle.resource_bound.specs.UnitLines.{user_text}

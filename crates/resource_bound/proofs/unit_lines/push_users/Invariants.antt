@@ -1,6 +1,7 @@
 use Rattle.std.proofs.Common.{◌≡◌, ◌++◌}
 use Rattle.std.specs.List.{flat_map, range_with_len}
-use Rattle.graph.specs.Units.{operations_of, use_of}
+use Rattle.unit_bound.specs.Units.{use_of}
+use Rattle.graph.specs.Units.{operations_of}
 use Rattle.resource_bound.specs.Choices.{rows_at}
 use Rattle.resource_bound.specs.UnitLines.{user_text}
 use Rattle.resource_bound.proofs.unit_lines.push_users.Given as goal

@@ -1,7 +1,8 @@
 use Rattle.std.proofs.Common.{◌≡◌, ◌<◌, ◌++◌, length, take, sym, ap, ◌∙◌, subst, arith}
-use Rattle.graph.specs.Units.{chosen_rows, operations_of}
-use Rattle.graph.specs.Uses.{Tallies}
-use Rattle.graph.proofs.unit_bound.Chosen.{length-operations}
+use Rattle.unit_bound.specs.Units.{chosen_rows}
+use Rattle.graph.specs.Units.{operations_of}
+use Rattle.unit_bound.specs.Uses.{Tallies}
+use Rattle.graph.proofs.finding.Operations.{length-operations}
 use Rattle.resource_bound.proofs.Chosen.{rows-more}
 use Rattle.resource_bound.proofs.unit_lines.uses_of.Goals as goal
 

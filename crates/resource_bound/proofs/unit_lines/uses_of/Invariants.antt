@@ -1,6 +1,7 @@
 use Rattle.std.proofs.Common.{◌*◌, take}
-use Rattle.graph.specs.Units.{chosen_rows, operations_of}
-use Rattle.graph.specs.Uses.{AtMost, Tallies}
+use Rattle.unit_bound.specs.Units.{chosen_rows}
+use Rattle.graph.specs.Units.{operations_of}
+use Rattle.unit_bound.specs.Uses.{AtMost, Tallies}
 use Rattle.resource_bound.proofs.unit_lines.uses_of.Given as goal
 
 abbrev pub invariant-loop-number : goal.invariant-loop-number

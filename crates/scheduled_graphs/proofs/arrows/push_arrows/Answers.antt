@@ -1,6 +1,6 @@
 use Rattle.std.proofs.Common.{◌≡◌, List, pos, get_or, ap, ◌∙◌, subst}
-use Rattle.graph.specs.Dependences.{EdgeData}
-use Rattle.graph.specs.Graphs.{GraphData}
+use Rattle.edges.specs.Edges.{EdgeData}
+use Rattle.edges.specs.Graphs.{GraphData}
 use Rattle.graph_text.specs.Kinds.{IsOfKind}
 use Rattle.lower_bounds.proofs.Texts.{text-next}
 use Rattle.loop_data.specs.Loops.{LoopData}

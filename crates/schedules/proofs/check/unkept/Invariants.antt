@@ -1,6 +1,6 @@
 use Rattle.std.proofs.Common.{ℕ, ◌<◌, get_or}
-use Rattle.graph.specs.Dependences.{EdgeData}
-use Rattle.graph.specs.Schedules.{KeepsEdge}
+use Rattle.edges.specs.Edges.{EdgeData}
+use Rattle.edges.specs.Schedules.{KeepsEdge}
 use Rattle.schedules.specs.Breaches.{times_in}
 use Rattle.schedules.proofs.check.unkept.Given as goal
 

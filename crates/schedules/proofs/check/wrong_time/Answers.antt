@@ -1,8 +1,8 @@
 use Rattle.std.proofs.Common.{Option, sym, ap, ◌∙◌, subst}
 use Rattle.std.specs.List.{All}
 use Rattle.std.specs.Option.{MatchOption}
-use Rattle.graph.specs.Graphs.{GraphData}
-use Rattle.graph.specs.Schedules.{KeepsEdge}
+use Rattle.edges.specs.Graphs.{GraphData}
+use Rattle.edges.specs.Schedules.{KeepsEdge}
 use Rattle.schedules.specs.declared.breach.Breach.{Breach}
 use Rattle.schedules.specs.Breaches.{times_in, IsFirstBreach}
 use Rattle.schedules.specs.Schedules.{IsSchedule, as_listed}

@@ -1,7 +1,7 @@
 use Rattle.std.proofs.Common.{◌≡◌, ℕ, ◌/◌, ◌<◌, max, map, take, get_or, ap, ◌∙◌, rules, nat_cmp, arith}
 use Rattle.std.specs.Ordering.{ord_max}
 use Rattle.std.proofs.lemmas.List.{take_all}
-use Rattle.graph.specs.Units.{greatest_of}
+use Rattle.unit_bound.specs.Units.{greatest_of}
 use Rattle.schedules.proofs.lawfulness.Greatest.{greatest_more}
 use Rattle.schedules.proofs.lawfulness.Stages.{greatest_below}
 use Rattle.schedules.proofs.stages.count_stages.Goals as goal

@@ -1,5 +1,5 @@
 use Rattle.std.proofs.Common.{◌≡◌, ◌/◌, map, take}
-use Rattle.graph.specs.Units.{greatest_of}
+use Rattle.unit_bound.specs.Units.{greatest_of}
 use Rattle.schedules.proofs.stages.count_stages.Given as goal
 
 abbrev pub invariant-loop-time : goal.invariant-loop-time

@@ -2,7 +2,7 @@ use Rattle.std.proofs.Common.{◌≡◌, ◌∙◌, ℕ, List, length, ap, refl,
 use Rattle.std.specs.Prelude.{codes, IfOk}
 use Rattle.serde_json.specs.Data.{Members, no_members, put, string}
 use Rattle.serde_json.specs.View.{members_view, view}
-use Rattle.graph.specs.Dependences.{EdgeData}
+use Rattle.edges.specs.Edges.{EdgeData}
 use Rattle.schedules.specs.Problems.{ProblemData as SchedulingData, mii_of}
 use Rattle.problems.specs.declared.draft.Draft.{Draft}
 use Rattle.problems.specs.Problems.{ProblemData}

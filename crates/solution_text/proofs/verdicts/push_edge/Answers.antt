@@ -2,7 +2,7 @@ use Rattle.std.proofs.Common.{rules, ◌≡◌, List, ℕ, ℤ, ◌++◌, ap, �
 use Rattle.std.proofs.lemmas.Int.{to_z-of_z}
 use Rattle.std.proofs.lemmas.Result.{on_ok_weaker}
 use Rattle.std.specs.Prelude.{codes}
-use Rattle.graph.specs.Dependences.{EdgeData}
+use Rattle.edges.specs.Edges.{EdgeData}
 use Rattle.problems.specs.declared.draft.Draft.{Draft}
 use Rattle.writing.specs.Words.{told, told_signed}
 use Rattle.solution_text.specs.Names.{op_name}

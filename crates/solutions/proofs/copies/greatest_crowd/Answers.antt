@@ -1,5 +1,5 @@
 use Rattle.std.proofs.Common.{length, ◌∙◌, arith}
-use Rattle.graph.proofs.unit_bound.Most.{greater}
+use Rattle.unit_bound.proofs.Most.{greater}
 use Rattle.registers.specs.Crowds.{crowd_in}
 use Rattle.solutions.proofs.Copying.{greatest-more}
 use Rattle.solutions.proofs.copies.greatest_crowd.Goals as goal

@@ -1,5 +1,5 @@
 use Rattle.std.proofs.Common.{◌≡◌, max, get_or, sym, ap, ◌∙◌}
-use Rattle.graph.proofs.unit_bound.Most.{greater}
+use Rattle.unit_bound.proofs.Most.{greater}
 use Rattle.registers.specs.declared.lifetime.Lifetime.{Lifetime}
 use Rattle.solutions.specs.Copies.{copies_of}
 use Rattle.solutions.proofs.Copying.{unroll-no, unroll-yes}

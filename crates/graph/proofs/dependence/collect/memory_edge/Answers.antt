@@ -2,7 +2,7 @@ use Rattle.std.proofs.Common.{rules, ◌≡◌, ◌<◌, pos, ◌+ℤ◌, Some, 
 use Rattle.std.proofs.lemmas.Int.{to_z-of_z}
 use mir.Val.{SFits}
 use Rattle.graph.specs.Subscripts.{IsMemoryEdge}
-use Rattle.graph.specs.Dependences.{EdgeData}
+use Rattle.edges.specs.Edges.{EdgeData}
 use Rattle.graph.proofs.finding.Found.{memory_edge-sound, memory_edge-complete}
 use Rattle.graph.proofs.dependence.collect.memory_edge.Goals as goal
 

@@ -3,7 +3,8 @@ use Rattle.std.specs.List.{All, Contains}
 use Rattle.loop_data.specs.declared.language.statement.Statement.{Statement}
 use Rattle.graph.specs.TablesAnswer.{TablesAnswer}
 use Rattle.graph.specs.Units.{first_without_table}
-use Rattle.graph.specs.Dependences.{EdgeData, latencies_of}
+use Rattle.edges.specs.Edges.{EdgeData}
+use Rattle.graph.specs.Dependences.{latencies_of}
 use Rattle.graph.specs.Graphs.{IsGraphOf}
 use Rattle.graph.specs.Subscripts.{IsFound, ReadsBelow}
 use Rattle.graph.proofs.finding.Latencies.{answered, length-latencies}

@@ -3,8 +3,8 @@ use Rattle.machine_data.specs.Alternative.{AreAlternatives}
 use Rattle.machine_data.specs.Machines.{table_of}
 use Rattle.loop_data.specs.declared.language.statement.Statement.{Statement}
 use Rattle.graph.specs.Units.{alternatives_in}
-use Rattle.graph.proofs.unit_bound.Chosen.{length-operations, operation_at}
-use Rattle.graph.proofs.unit_bound.UnitBound.{operations_well_formed}
+use Rattle.graph.proofs.finding.Operations.{length-operations, operation_at}
+use Rattle.graph.proofs.finding.Operations.{operations_well_formed}
 use Rattle.graph.proofs.offers.OfLoopOffers.alternatives.Goals as goal
 
 pub returns-in-Some-clause-value : goal.returns-in-Some-clause-value

@@ -1,5 +1,5 @@
 use Rattle.std.proofs.Common.{◌++◌, pos, get_or}
-use Rattle.graph.specs.Dependences.{EdgeData}
+use Rattle.edges.specs.Edges.{EdgeData}
 use Rattle.graph_text.specs.Dot.{IsStroke, arrow_line}
 use Rattle.graph_text.specs.declared.drawing.dot.Stroke.{Stroke}
 use Rattle.graph_text.proofs.Drawn.{edge-timed}

@@ -1,5 +1,5 @@
 use Rattle.std.proofs.Common.{ℕ, sym, subst}
-use Rattle.graph.specs.Schedules.{IsLawfulSchedule}
+use Rattle.edges.specs.Schedules.{IsLawfulSchedule}
 use Rattle.modulo.specs.inner.Endings.{EndsAs}
 use Rattle.modulo.proofs.answers.Blaming.{ends-without}
 use Rattle.modulo.proofs.states.Reached.{attempts-are_lawful}

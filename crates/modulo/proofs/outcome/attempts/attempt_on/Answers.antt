@@ -1,5 +1,5 @@
 use Rattle.std.proofs.Common.{ℕ, ◌≤◌, sym, subst, arith}
-use Rattle.graph.specs.Schedules.{IsLawfulSchedule}
+use Rattle.edges.specs.Schedules.{IsLawfulSchedule}
 use Rattle.modulo.specs.inner.Endings.{EndsAs}
 use Rattle.schedules.specs.Problems.{mii_of}
 use Rattle.modulo.proofs.answers.Blaming.{mii-some}

@@ -1,6 +1,6 @@
 use Rattle.std.proofs.Common.{◌≡◌, ℕ, ◌<◌, List, length, drop, sym, ◌∙◌, subst, arith}
 use Rattle.std.specs.List.{slice_index}
-use Rattle.graph.specs.Walks.{AreHeights}
+use Rattle.walks.specs.Walks.{AreHeights}
 use Rattle.mrt.specs.Placements.{OperationAlternatives, alternatives_of}
 use Rattle.modulo.specs.Scheduling.{IsFirstSound, Stops}
 use Rattle.modulo.proofs.answers.Answering.{unblocked}

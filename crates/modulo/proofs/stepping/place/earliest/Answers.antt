@@ -1,8 +1,8 @@
 use Rattle.std.proofs.Common.{◌≡◌, ℕ, ◌<◌, eqb, length, sym, ap, ◌∙◌, subst, filter}
 use Rattle.std.specs.List.{All}
 use Rattle.std.proofs.lemmas.List.Elements.{All-filter, All-weaker}
-use Rattle.graph.specs.Dependences.{EdgeData}
-use Rattle.graph.specs.Graphs.{GraphData}
+use Rattle.edges.specs.Edges.{EdgeData}
+use Rattle.edges.specs.Graphs.{GraphData}
 use Rattle.modulo.specs.inner.Progress.{IsEarliestBy}
 use Rattle.modulo.proofs.states.Filtered.{IsEarliest-into, earliest_below}
 use Rattle.modulo.proofs.stepping.place.earliest.Goals as goal

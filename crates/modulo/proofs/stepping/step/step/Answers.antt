@@ -1,8 +1,8 @@
 use Rattle.std.proofs.Common.{◌+◌, ◌≤◌, ◌≡◌, ℕ, ◌<◌, eqb, List, [], length, filter, set, Some, sym, ap, ◌∙◌, subst, arith}
 use Rattle.std.specs.List.{All, Contains}
 use Rattle.std.proofs.lemmas.List.Elements.{All-filter, All-weaker}
-use Rattle.graph.specs.Dependences.{EdgeData}
-use Rattle.graph.specs.Graphs.{GraphData}
+use Rattle.edges.specs.Edges.{EdgeData}
+use Rattle.edges.specs.Graphs.{GraphData}
 use Rattle.mrt.specs.Placements.{OperationAlternatives, Placements, Placement, alternatives_of, rows_of, IsMetBy, IsFree}
 use Rattle.modulo.specs.inner.Evictions.{StaysOr, IsBrokenAt, IsCutOff}
 use Rattle.modulo.proofs.states.Placing.{still_free, times_grow, IsPlacing-from}

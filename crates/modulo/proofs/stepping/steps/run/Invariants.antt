@@ -1,5 +1,5 @@
 use Rattle.std.proofs.Common.{◌≡◌, ℕ, ◌+◌, ◌*◌, List, length}
-use Rattle.graph.specs.Walks.{AreHeights}
+use Rattle.walks.specs.Walks.{AreHeights}
 use Rattle.modulo.specs.inner.Progress.{AreBelow}
 use Rattle.modulo.specs.Scheduling.{LeadsTo}
 use Rattle.modulo.specs.inner.Waiting.{IsByHeight}

@@ -1,5 +1,5 @@
 use Rattle.std.proofs.Common.{◌≡◌, sym, subst, ◌∙◌}
-use Rattle.graph.specs.Graphs.{AreEdges}
+use Rattle.edges.specs.Graphs.{AreEdges}
 use Rattle.problems.specs.Drafts.{edges_of, latencies_of}
 use Rattle.problems.proofs.made.Edges.{are-edges}
 use Rattle.problems.proofs.making.scheduling.graph_of.Goals as goal

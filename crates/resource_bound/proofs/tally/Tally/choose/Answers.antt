@@ -1,7 +1,7 @@
 use Rattle.std.proofs.Common.{◌≡◌, ◌<◌, ◌≤◌, List, [], ◌++◌, length, get_or, ◌∙◌, subst, arith}
 use Rattle.std.proofs.lemmas.List.{get_or_default}
 use Rattle.machine_data.specs.declared.alternative.Row.{Row}
-use Rattle.graph.specs.Uses.{Tallies}
+use Rattle.unit_bound.specs.Uses.{Tallies}
 use Rattle.resource_bound.proofs.Best.{best_of-one, best_of-better, best_of-kept, best_of-all}
 use Rattle.resource_bound.proofs.tally.Tally.choose.Goals as goal
 use Rattle.resource_bound.proofs.tally.Tally.choose.Goals.{then-tally-best, else-tally-best}

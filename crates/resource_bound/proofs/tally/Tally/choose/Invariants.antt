@@ -1,6 +1,6 @@
 use Rattle.std.proofs.Common.{ℕ, ◌+◌, List}
 use Rattle.machine_data.specs.declared.alternative.Row.{Row}
-use Rattle.graph.specs.Uses.{AtMost, Tallies}
+use Rattle.unit_bound.specs.Uses.{AtMost, Tallies}
 use Rattle.resource_bound.proofs.Best.{IsBestOf}
 use Rattle.resource_bound.proofs.tally.Tally.choose.Given as goal
 

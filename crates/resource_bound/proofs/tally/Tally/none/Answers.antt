@@ -1,4 +1,4 @@
-use Rattle.graph.proofs.unit_bound.Tally.{Tallies-none, AtMost-none}
+use Rattle.unit_bound.proofs.Tally.{Tallies-none, AtMost-none}
 use Rattle.resource_bound.proofs.tally.Tally.none.Goals as goal
 
 pub returns-clause-tallied : goal.returns-clause-tallied

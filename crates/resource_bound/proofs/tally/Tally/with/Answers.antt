@@ -1,8 +1,8 @@
 use Rattle.std.proofs.Common.{◌+◌, ◌<◌, ◌≤◌, length, get_or, set, refl, arith, ◌≡◌}
 use Rattle.std.proofs.lemmas.List.{get_or_default}
 use Rattle.machine_data.specs.declared.alternative.Row.{Row}
-use Rattle.graph.specs.Uses.{AtMost}
-use Rattle.graph.proofs.unit_bound.Tally.{Tallies-more, AtMost-set}
+use Rattle.unit_bound.specs.Uses.{AtMost}
+use Rattle.unit_bound.proofs.Tally.{Tallies-more, AtMost-set}
 use Rattle.resource_bound.proofs.tally.Tally.with.Goals as goal
 
 pub overflow_add-count : goal.overflow_add-count

@@ -1,6 +1,6 @@
 use Rattle.std.proofs.Common.{ℕ, ◌+◌, List, ◌++◌, take}
 use Rattle.machine_data.specs.declared.alternative.Row.{Row}
-use Rattle.graph.specs.Uses.{AtMost, Tallies}
+use Rattle.unit_bound.specs.Uses.{AtMost, Tallies}
 use Rattle.resource_bound.proofs.tally.Tally.with.Given as goal
 
 abbrev pub invariant-loop-row : goal.invariant-loop-row

@@ -2,7 +2,7 @@ use Rattle.std.proofs.Common.{◌≡◌, ◌<◌, max, subst, ◌++◌, [], leng
 use Rattle.loop_data.specs.Loops.{LoopData}
 use Rattle.loop_schedules.specs.Problems.{ProblemData}
 use Rattle.std.specs.Prelude.{if◌then◌else◌}
-use Rattle.graph.specs.Units.{greatest_of}
+use Rattle.unit_bound.specs.Units.{greatest_of}
 use Rattle.rotating.proofs.emitted.Ranks.{zero-at}
 use Rattle.overlap.specs.Lifetimes.{is_out, read_at, uses_of, values_from, lifetime_of, lifetimes_of}
 use Rattle.rotating.proofs.lives.Greatest.{drop-none}

@@ -1,5 +1,5 @@
 use Rattle.std.proofs.Common.{◌≡◌, ℕ, ◌+◌, max, drop, map, zip}
-use Rattle.graph.specs.Units.{greatest_of}
+use Rattle.unit_bound.specs.Units.{greatest_of}
 use Rattle.rotating.proofs.values.lifetime.last_landing.Given as goal
 
 abbrev pub invariant-loop-op : goal.invariant-loop-op

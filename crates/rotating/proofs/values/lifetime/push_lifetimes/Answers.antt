@@ -3,7 +3,7 @@ use Rattle.loop_data.specs.Loops.{LoopData}
 use Rattle.loop_data.specs.declared.language.statement.Statement.{Statement}
 use Rattle.loop_schedules.specs.Problems.{ProblemData}
 use Rattle.std.specs.Prelude.{is_some, if◌then◌else◌}
-use Rattle.graph.specs.Units.{greatest_of}
+use Rattle.unit_bound.specs.Units.{greatest_of}
 use Rattle.rotating.proofs.emitted.Ranks.{zero-at, values-yes, values-no}
 use Rattle.registers.specs.declared.lifetime.Lifetime.{Lifetime}
 use Rattle.overlap.specs.Lifetimes.{is_out, read_at, uses_of, values_from, lifetime_of, lifetimes_of}

@@ -1,6 +1,6 @@
 use Rattle.std.proofs.Common.{◌≡◌, ◌<◌, ℕ, max, length, drop, map}
 use Rattle.std.specs.Prelude.{slice_index}
-use Rattle.graph.specs.Units.{greatest_of}
+use Rattle.unit_bound.specs.Units.{greatest_of}
 use Rattle.overlap.specs.Lifetimes.{Use, uses_from}
 use Rattle.rotating.proofs.values.uses.raise_carried.Given as goal
 

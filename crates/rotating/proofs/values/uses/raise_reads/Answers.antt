@@ -1,6 +1,6 @@
 use Rattle.std.proofs.Common.{◌≡◌, ◌<◌, ◌+◌, ◌*◌, max, length, ◌∷◌, map, drop, sym, ap, ◌∙◌, arith}
 use Rattle.std.specs.Prelude.{slice_index}
-use Rattle.graph.specs.Units.{greatest_of}
+use Rattle.unit_bound.specs.Units.{greatest_of}
 use Rattle.loop_data.specs.declared.language.statement.Statement.{Statement}
 use Rattle.loop_data.specs.Loops.{LoopData}
 use Rattle.loop_schedules.specs.Problems.{ProblemData}

@@ -2,7 +2,7 @@ use Rattle.std.proofs.Common.{List, ◌≤◌, length, subst, arith}
 use Rattle.std.specs.List.{All}
 use Rattle.machine_data.specs.declared.alternative.Row.{Row}
 use Rattle.machine_data.specs.Alternative.{AreAlternatives}
-use Rattle.graph.specs.Units.{IsUnitBound}
+use Rattle.unit_bound.specs.Units.{IsUnitBound}
 use Rattle.schedules.proofs.problem.Problem.made.Goals as goal
 
 pub invariant_of-result : goal.invariant_of-result

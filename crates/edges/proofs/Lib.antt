@@ -1,0 +1,5 @@
+pub mod Filtered
+pub mod GivenEdges
+pub mod Grouping
+pub mod Order
+pub mod Slices

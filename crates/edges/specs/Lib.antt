@@ -1,0 +1,4 @@
+pub mod Edges
+pub mod Graphs
+pub mod Schedules
+pub mod inner

@@ -1,0 +1,2 @@
+-- What the clauses of private functions cite.
+pub mod Layout

@@ -1,3 +1,0 @@
--- Edges by operation.
-pub mod Grouping
-pub mod Slices

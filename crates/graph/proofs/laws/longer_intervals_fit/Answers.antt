@@ -1,5 +1,0 @@
-use Rattle.graph.proofs.walks.Settling.{fits-at_longer}
-use Rattle.graph.proofs.laws.longer_intervals_fit.Goals as goal
-
-pub returns : goal.returns
-returns c = λ edges bound ii b le. fits-at_longer edges bound ii le b.fits

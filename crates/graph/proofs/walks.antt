@@ -1,7 +1,0 @@
--- Walks along edges, and relaxation.
-pub mod Circuits
-pub mod Potentials
-pub mod Raises
-pub mod Recurrences
-pub mod Settling
-pub mod Sweeps
