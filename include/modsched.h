@@ -295,7 +295,7 @@ uint32_t modsched_run(const uint8_t *machine, size_t machine_length, const uint8
  * kernel, this is what modsched_run tells of it. */
 uint32_t modsched_plain(const uint8_t *loops, size_t loops_length, uint64_t trip, uint8_t *out, size_t room, struct modsched_told *told);
 
-/* `modsched bounds`: the lower bounds of the interval of each loop, by its units and by its recurrences. No kernel is searched for, so the
+/* `modsched bounds`: ResMII and RecMII of each loop, the bounds of its interval by units and by recurrences. No kernel is searched for, so the
  * status is never MODSCHED_UNMET, nor MODSCHED_OUTSIDE; likewise with the next two. */
 uint32_t modsched_bounds(const uint8_t *machine, size_t machine_length, const uint8_t *loops, size_t loops_length, uint8_t *out,
                          size_t room, struct modsched_told *told);

@@ -313,7 +313,7 @@ class Library:
         return self._printed("plain", (loops,), trip)
 
     def bounds(self, machine: str | bytes, loops: str | bytes) -> Printed:
-        """The lower bounds of the interval of each loop. Raises Refused or MemoryError."""
+        """ResMII and RecMII of each loop. Raises Refused or MemoryError."""
         return self._printed("bounds", (machine, loops))
 
     def edges(self, machine: str | bytes, loops: str | bytes) -> Printed:

@@ -1,4 +1,4 @@
-//! What no command prints of texts of machines and loops, and the README's example.
+//! What no command prints of texts of machines and loops, and the example of docs/LIBRARY.md.
 
 mod dependences;
 mod given;

@@ -2,8 +2,8 @@
 //!
 //! A worker makes what is printed of one loop, or for `vary` what is found of it; of a large text it also reads and
 //! schedules a piece (`schedule_text_of`, `document_text_of`, `run_text_of`). The clauses are those that the crates for
-//! the calling thread have, so no byte depends on workers. Where no worker is worth its start, the code of those crates
-//! does the work.
+//! the calling thread have, however many workers there are. Where no worker is worth its start, the code of those
+//! crates does the work.
 #![tactic(auto)]
 
 mod commands;

@@ -1,4 +1,4 @@
-//! The example of README.md: bounds and a plain run of texts in memory.
+//! The example of docs/LIBRARY.md: bounds and a plain run of texts in memory.
 
 use super::given::{ACC, M1};
 use graph::{edges, res_mii};
