@@ -1,2 +1,3 @@
--- How failures are collected: what the clauses of private functions cite.
+-- How failures are collected and an interval is chosen: what the clauses of private functions cite.
 pub mod Collected
+pub mod Choosing

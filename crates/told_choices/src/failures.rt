@@ -1,12 +1,10 @@
 //! Why intervals that are tried one after another give no kernel, while they are tried.
 
-ghost use Rattle.std.specs.Prelude.{◌≡◌, ◌+◌, [], IfOk, length, false};
-ghost use Rattle.std.specs.List.{AllZip, range_with_len};
+ghost use Rattle.std.specs.Prelude.{◌≡◌, ◌+◌, [], IfOk, length};
 ghost use Rattle.told_intervals.specs.Reasons.{FailsFor};
 ghost use Rattle.told_intervals.specs.declared.evidence.Reason.TheVariants.{Register};
 ghost use Rattle.loop_schedules.specs.Problems.{ProblemData, mii_of};
-ghost use Rattle.told_choices.specs.Whys.{FailsAs, TellNeeds};
-ghost use Rattle.told_choices.specs.inner.Collected.{AreFailures, is_never};
+ghost use Rattle.told_choices.specs.inner.Collected.{AreFailures, AreReasons, is_never};
 
 use crate::why::Why;
 use loop_schedules::Schedule;
@@ -89,20 +87,18 @@ impl<'a> Failures<'a> {
         Ok(())
     }
 
-    /// Why all of them give none, with the need of the last one that failed for registers.
-    pub(crate) fn into_list(self, alloc: Global) -> Result<Vec<Why>, OutOfMemory>
-        requires are { (problem : ProblemData) × AreFailures problem self.list.items self.lack }
-        ensures are { (problem : ProblemData) → AreFailures problem self.entry.list.items self.entry.lack
-            → IfOk result (λ list. AllZip (FailsAs problem) (range_with_len (mii_of problem) (length self.entry.list.items)) list.items) }
-        ensures tell_needs { IfOk result (λ list. TellNeeds false list.items) }
+    /// Tells the need of the last one that failed for registers, too, so that it is told why all of them give none.
+    pub(crate) fn tell_last(&mut self, alloc: Global) -> Result<(), OutOfMemory>
+        requires { (problem : ProblemData) × AreFailures problem self.old.list.items self.old.lack }
+        ensures { (problem : ProblemData) → AreFailures problem self.old.list.items self.old.lack
+            → IfOk result (λ _. AreReasons problem (length self.old.list.items) self.new.list.items) }
     {
-        let Failures { mut list, lack } = self;
-        match lack {
-            Lack::Never | Lack::Once => Ok(list),
+        match &self.lack {
+            Lack::Never | Lack::Once => Ok(()),
             Lack::Again(place, life, schedule) => {
-                let need = least_registers(alloc, &schedule)?;
-                list[place] = Why::Need(life, need);
-                Ok(list)
+                let need = least_registers(alloc, schedule)?;
+                self.list[*place] = Why::Need(*life, need);
+                Ok(())
             }
         }
     }

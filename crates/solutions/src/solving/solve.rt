@@ -2,9 +2,10 @@
 
 ghost use Rattle.std.specs.Prelude.{◌≡◌, None, IfOk};
 ghost use Rattle.solutions.specs.declared.solving.outcome.Outcome.TheVariants.{Met};
-ghost use Rattle.solutions.specs.Outcomes.{IsSolved};
+ghost use Rattle.solutions.specs.Outcomes.{IsSolved, last_of};
 ghost use Rattle.solutions.specs.Runs.{IsRightOutcome};
 ghost use Rattle.solutions.specs.Told.{IsSearched};
+ghost use Rattle.solutions.specs.inner.Searching.{IsFirstMet, NoneBefore};
 
 use crate::solution::Solution;
 use crate::solving::outcome::Outcome;
@@ -60,18 +61,35 @@ pub fn solve_with_culprit<'a>(
 ) -> Result<Solved<'a>, OutOfMemory>
     ensures { IfOk result (IsSearched problem.now) }
 {
-    let trials = Trials::of(alloc, problem)?;
-    search(alloc, problem, trials)
+    let mut trials = Trials::of(alloc, problem)?;
+    search(alloc, problem, &mut trials)
 }
 
 /// The intervals of a problem, tried one after another until one gives a solution. Of the last one alone it is told why it gives none.
 fn search<'a>(
     alloc: Global,
     problem: &'a Problem,
-    mut trials: Trials<'a>,
+    trials: &mut Trials<'a>,
 ) -> Result<Solved<'a>, OutOfMemory>
-    requires { trials ≡ problem.now }
+    requires { trials.old ≡ problem.now }
     ensures { IfOk result (IsSearched problem.now) }
+{
+    match first_met(alloc, problem, trials) {
+        Err(fault) => Err(fault),
+        Ok(Some(solution)) => Ok(Solved::met(solution)),
+        Ok(None) => try_last(alloc, problem, trials),
+    }
+}
+
+/// The solution of the first interval before the last one that gives one.
+fn first_met<'a>(
+    alloc: Global,
+    problem: &'a Problem,
+    trials: &mut Trials<'a>,
+) -> Result<Option<Solution<'a>>, OutOfMemory>
+    requires { trials.old ≡ problem.now }
+    ensures same { trials.new ≡ problem.now }
+    ensures found { IfOk result (IsFirstMet problem.now) }
 {
     let scheduling = problem.scheduling();
     let mii = scheduling.mii();
@@ -79,11 +97,25 @@ fn search<'a>(
     for above in 0..ceiling {
         match trials.try_met(alloc, mii + above) {
             Err(fault) => return Err(fault),
-            Ok(Some(solution)) => return Ok(Solved::met(solution)),
+            Ok(Some(solution)) => return Ok(Some(solution)),
             Ok(None) => {}
         }
     }
-    match trials.try_told(alloc, mii + ceiling) {
+    Ok(None)
+}
+
+/// What the last interval gives, where none before it gives a solution.
+fn try_last<'a>(
+    alloc: Global,
+    problem: &'a Problem,
+    trials: &mut Trials<'a>,
+) -> Result<Solved<'a>, OutOfMemory>
+    requires same { trials.old ≡ problem.now }
+    requires none { NoneBefore problem.now (last_of problem.now) }
+    ensures { IfOk result (IsSearched problem.now) }
+{
+    let scheduling = problem.scheduling();
+    match trials.try_told(alloc, scheduling.mii() + scheduling.ceiling()) {
         Err(fault) => Err(fault),
         Ok(Tried::Met(solution)) => Ok(Solved::met(solution)),
         Ok(Tried::Failed(failure)) => Ok(Solved {

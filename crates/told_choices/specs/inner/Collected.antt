@@ -10,7 +10,7 @@ use Rattle.told_choices.specs.declared.failures.Lack.{Lack}
 use Rattle.told_choices.specs.declared.failures.Lack.TheVariants.{Never, Once, Again}
 use Rattle.told_choices.specs.declared.why.Why.{Why}
 use Rattle.told_choices.specs.declared.why.Why.TheVariants.{Register}
-use Rattle.told_choices.specs.Whys.{FailsAs, lacks, tells_need}
+use Rattle.told_choices.specs.Whys.{FailsAs, TellNeeds, lacks, tells_need}
 
 -- of the intervals that fail for registers, the first tells its need, and no other; `before` tells whether one did before these
 abbrev pub FirstTells : Bool → List Why → Type 0
@@ -48,6 +48,11 @@ pub record AreFailures (problem : ProblemData) (whys : List Why) (lack : Lack) :
   pub each : AllZip (FailsAs problem) (range_with_len (mii_of problem) (length whys)) whys
   pub first_tells : FirstTells false whys
   pub is_lack : IsLack problem whys lack
+
+-- the same of so many intervals, with the needs of the first and the last one that fail for registers
+pub record AreReasons (problem : ProblemData) (intervals : ℕ) (whys : List Why) : Type 0 where
+  pub each : AllZip (FailsAs problem) (range_with_len (mii_of problem) intervals) whys
+  pub tell_needs : TellNeeds false whys
 
 -- none fails for registers
 abbrev pub is_never : Lack → Bool

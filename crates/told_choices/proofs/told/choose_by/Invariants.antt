@@ -1,6 +1,6 @@
 use Rattle.std.proofs.Common.{◌≡◌}
 use Rattle.told_choices.proofs.Telling.{AreTold}
-use Rattle.told_choices.proofs.told.choose_told.Given as goal
+use Rattle.told_choices.proofs.told.choose_by.Given as goal
 
 abbrev pub invariant-loop-above : goal.invariant-loop-above
 invariant-loop-above l = record {
