@@ -19,11 +19,21 @@ use std::marker::Model;
 /// A loop with its dependences on a machine, the alternatives that the machine offers for each
 /// operation, the two lower bounds of the initiation interval, and what is to be tried. Contracts see all
 /// of this, and know that edges and bounds are the loop's.
-#[derive(Drop)]
 pub struct Prepared {
     innermost: Loop,
     problem: Problem,
     registers: u16,
+}
+
+// Written out, so that a crate above calls it. What is derived would be proved once more there, for each part.
+impl Drop for Prepared {
+    fn drop(self) {
+        let Prepared {
+            innermost: _,
+            problem: _,
+            registers: _,
+        } = self;
+    }
 }
 
 impl Model for Prepared {

@@ -68,9 +68,15 @@ impl Alternative {
 
 /// The 1 to 16 alternatives by which an operation may be issued, in the order of the text. Those of an opcode
 /// of a machine text are at most 8. Contracts see the list of the alternatives' lists of rows.
-#[derive(Drop)]
 pub struct Alternatives {
     list: Shelf,
+}
+
+// Written out, so that a crate above calls it. What is derived would be proved once more there, for each part.
+impl Drop for Alternatives {
+    fn drop(self) {
+        let Alternatives { list: _ } = self;
+    }
 }
 
 /// Where a list of alternatives is kept.

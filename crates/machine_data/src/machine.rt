@@ -10,11 +10,21 @@ use std::marker::Model;
 
 /// A VLIW machine: 1 to 64 functional units, 1 to 256 rotating registers and, for each opcode that
 /// loops may use on it, how its operations are issued.
-#[derive(Drop)]
 pub struct Machine {
     units: Vec<Name>,
     registers: u16,
     tables: Vec<Option<OpcodeTable>>,
+}
+
+// Written out, so that a crate above calls it. What is derived would be proved once more there, for each part.
+impl Drop for Machine {
+    fn drop(self) {
+        let Machine {
+            units: _,
+            registers: _,
+            tables: _,
+        } = self;
+    }
 }
 
 impl Model for Machine {

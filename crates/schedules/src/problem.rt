@@ -15,7 +15,6 @@ use std::marker::Model;
 /// Operations, by the edges between them, the latency and the alternatives of each, with the two lower bounds
 /// of the initiation interval, and what is to be tried. Contracts see all of this, and know that the bounds are
 /// those of the edges and the alternatives.
-#[derive(Drop)]
 pub struct Problem {
     edges: Edges,
     alternatives: Vec<Alternatives>,
@@ -25,6 +24,21 @@ pub struct Problem {
     recurrences: u64,
     ratio: u64,
     ceiling: u64,
+}
+
+// Written out, so that a crate above calls it. What is derived would be proved once more there, for each part.
+impl Drop for Problem {
+    fn drop(self) {
+        let Problem {
+            edges: _,
+            alternatives: _,
+            kinds: _,
+            resources: _,
+            recurrences: _,
+            ratio: _,
+            ceiling: _,
+        } = self;
+    }
 }
 
 impl Model for Problem {

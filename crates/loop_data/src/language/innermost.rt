@@ -11,7 +11,6 @@ use machine_data::Name;
 use std::marker::Model;
 
 /// An innermost loop: what each iteration does, in order. Contracts see it as data.
-#[derive(Drop)]
 pub struct Loop {
     name: Name,
     arrays: Vec<Array>,
@@ -19,6 +18,20 @@ pub struct Loop {
     statements: Vec<Statement>,
     inits: Vec<Initial>,
     outs: Vec<u8>,
+}
+
+// Written out, so that a crate above calls it. What is derived would be proved once more there, for each part.
+impl Drop for Loop {
+    fn drop(self) {
+        let Loop {
+            name: _,
+            arrays: _,
+            params: _,
+            statements: _,
+            inits: _,
+            outs: _,
+        } = self;
+    }
 }
 
 impl Model for Loop {
