@@ -1,5 +1,5 @@
-//! Tests of the crates for scheduling problems: drafts and their faults, a problem that is given by numbers, lines and whole texts with how many bytes the word at fault has, problems
-//! without names, and pieces of lines. All is worked by hand. What the program prints of texts is told by its sessions.
+//! Tests of the crates for scheduling problems: a draft that is given by numbers, names at fault, how many bytes the word at fault of a line or of a text has, problems without names, and
+//! pieces of lines. All is worked by hand. What the program prints of texts is told by its sessions.
 #![tactic(auto)]
 
 #[cfg(test)]
