@@ -1,4 +1,4 @@
-"""Two taps of a filter, whose interval, times and registers are worked out by hand (crates/acceptance_problems/src/tests/filter.rt)."""
+"""Two taps of a filter, whose interval, times and registers are worked out by hand (tests/library.d/worked.c)."""
 import os
 import sys
 import unittest

@@ -1,8 +1,7 @@
 //! Tests of the lower crates together: texts go into the readers, and what was read into bounds and runs.
 //!
-//! These are the example of a call in `docs/LIBRARY.md`, and what no command prints of worked loops: arithmetic,
-//! memories that are changed, canonical texts, the rounds that settle heights, circuits that do not fit an interval,
-//! and sets of units.
+//! These are the example of a call in `docs/LIBRARY.md`, and what no command prints of worked loops: memories that are
+//! changed, canonical texts, the rounds that settle heights, and circuits that do not fit an interval.
 #![tactic(auto)]
 
 #[cfg(test)]

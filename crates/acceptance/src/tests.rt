@@ -4,4 +4,3 @@ mod dependences;
 mod given;
 mod library;
 mod runs;
-mod sets;

@@ -1,8 +1,7 @@
-//! Tests of scheduling problems: drafts and lines with one fault each, and a problem that was solved by hand.
+//! Tests of scheduling problems: drafts given by numbers, names at fault, problems without names, pieces of lines.
 //!
-//! The fault that is told is compared, and for lines how many bytes the word at fault has. A problem without names is
-//! solved, judged and told. What the program prints of texts is in `tests/sessions`, and loops given as problems are in
-//! `tests/problems_as_loops`.
+//! All is worked by hand. How many bytes the word at fault of a line or of a text has is compared, too. What the program
+//! prints of texts is in `tests/sessions`, and loops given as problems are in `tests/problems_as_loops`.
 #![tactic(auto)]
 
 #[cfg(test)]

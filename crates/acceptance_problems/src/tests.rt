@@ -1,7 +1,6 @@
 //! What no text and no line of the program says.
 
 mod drafts;
-mod filter;
 mod lines;
 mod texts;
 mod unnamed;

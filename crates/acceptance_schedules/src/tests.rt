@@ -1,6 +1,5 @@
 //! The worked loops at their intervals, over each table, and lists that are schedules or are not.
 
-mod agreement;
 mod tables;
 
 ghost use Rattle.std.specs.Prelude.{◌≤◌};
@@ -9,7 +8,7 @@ ghost use Rattle.loop_schedules.specs.Problems.{mii_of};
 use ims::{Failure, Try, attempt};
 use loop_schedules::{Prepared, Schedule};
 use loops::{Loop, read_loops};
-use machine::{Machine, read_machine};
+use machine::read_machine;
 use mrt::{MaskTable, ModuloTable, OwnerTable, TimelineTable};
 use std::alloc::Global;
 use std::process::Abort;
@@ -24,16 +23,12 @@ fn loop_of(rt: &impl Abort, alloc: Global, text: &str) -> Loop {
     loops.pop().expect(rt, "a loop")
 }
 
-/// The loop of a text, prepared for a machine. `None` where the machine lacks one of its opcodes.
-fn prepared_for(rt: &impl Abort, alloc: Global, machine: &Machine, text: &str) -> Option<Prepared> {
-    let innermost = loop_of(rt, alloc, text);
-    Prepared::new(alloc, machine, innermost, 6, 32).ok()
-}
-
 /// The loop of a text, prepared for the machine of a text.
 fn prepare(rt: &impl Abort, alloc: Global, machine: &str, text: &str) -> Prepared {
     let machine = read_machine(alloc, machine.as_bytes()).expect(rt, "a machine");
-    prepared_for(rt, alloc, &machine, text).expect(rt, "a machine with all opcodes")
+    let innermost = loop_of(rt, alloc, text);
+    let prepared = Prepared::new(alloc, &machine, innermost, 6, 32);
+    prepared.expect(rt, "a machine with all opcodes")
 }
 
 /// The time and alternative of each operation, or why there are none.

@@ -1,7 +1,6 @@
 //! Texts and lines, each with what they have to give.
 
 mod command_lines;
-mod lints;
 mod standard_output;
 mod statuses;
 mod whole_texts;

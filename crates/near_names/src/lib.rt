@@ -4,8 +4,6 @@
 #![tactic(auto)]
 
 mod names;
-#[cfg(test)]
-mod tests;
 mod words;
 
 pub use names::nearest;

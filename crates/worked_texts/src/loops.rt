@@ -1,11 +1,5 @@
 //! Texts of loops.
 
-/// All of these loops.
-pub const LOOPS: &[&str] = &[
-    ABS, ACC, ACCO, ALTS, CHAIN, EDGE, FAR, FORCE, HOLD, KEEP, LAST, LATE, LONE, POW, SHIFT, SUM,
-    THREE, WRAP,
-];
-
 /// A running sum.
 pub const ACC: &str = "\
 loop acc

@@ -1,8 +1,5 @@
 //! Texts of machines.
 
-/// All of these machines.
-pub const MACHINES: &[&str] = &[M1, M2, M3, M4, M5, M6, M7, M8, TWO_REGISTERS];
-
 /// Two units: loads and stores share one, additions have the other.
 pub const M1: &str = r#"registers = 8
 units = ["mem", "alu"]

@@ -1,5 +1,5 @@
-//! How many rounds settle the heights of worked loops, and the circuits that do not fit an interval, also where it is not the one
-//! below the bound, as it is for a graph that `dot` draws.
+//! How many rounds settle the heights of worked loops, and the circuits that do not fit an interval, where it is not the one below the
+//! bound, as it is for a graph that `dot` draws.
 
 ghost use Rattle.std.specs.Prelude.{◌≤◌};
 
@@ -75,36 +75,6 @@ const TURNS_CIRCUIT: &[Edge] = &[
     },
 ];
 
-/// The circuit of `CHAIN`: five cycles within one iteration, through memory.
-const CHAIN_CIRCUIT: &[Edge] = &[
-    Edge {
-        from: 0,
-        to: 1,
-        distance: 0,
-        delay: 3,
-    },
-    Edge {
-        from: 1,
-        to: 2,
-        distance: 0,
-        delay: 1,
-    },
-    Edge {
-        from: 2,
-        to: 0,
-        distance: 1,
-        delay: 1,
-    },
-];
-
-/// The circuit of `ACC`: the sum needs itself.
-const ACC_CIRCUIT: &[Edge] = &[Edge {
-    from: 1,
-    to: 1,
-    distance: 1,
-    delay: 1,
-}];
-
 /// The edges, in ascending order, of the circuit that a loop has above an interval; none where every circuit fits it.
 fn circuit_of(alloc: Global, machine: &str, text: &str, ii: u16) -> Result<Vec<Edge>, Fail> {
     let dependences = dependences_of(alloc, machine, text)?;
@@ -120,11 +90,8 @@ fn circuit_of(alloc: Global, machine: &str, text: &str, ii: u16) -> Result<Vec<E
 fn finds_circuits(rt: HostRuntime) -> Result<(), Fail> {
     for (machine, text, ii, wanted) in [
         (M2, TURNS, 0, TURNS_CIRCUIT),
-        (M2, TURNS, 3, TURNS_CIRCUIT),
         (M2, TURNS, 4, &[]),
-        (M1, CHAIN, 4, CHAIN_CIRCUIT),
         (M1, CHAIN, 5, &[]),
-        (M1, ACC, 0, ACC_CIRCUIT),
         (M1, ACC, 1, &[]),
         (M2, STRAIGHT, 0, &[]),
         (M2, STRAIGHT, 16384, &[]),

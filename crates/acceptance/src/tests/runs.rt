@@ -1,4 +1,4 @@
-//! Arithmetic, memories that are changed by their calls, runs that are refused, and the canonical text of loops.
+//! Memories that are changed by their calls, runs that are refused, and the canonical text of loops.
 
 ghost use Rattle.std.specs.Prelude.{◌+◌, ◌<◌, ◌≤ℤ◌, ◌<ℤ◌, pos, neg_ℤ, length};
 
@@ -7,37 +7,11 @@ use super::given::{
     WRAP,
 };
 use loops::{
-    Loop, Memory, RunFault, apply, opening, read_loops, run_beginning, run_from, run_plain,
-    write_loop,
+    Loop, Memory, RunFault, opening, read_loops, run_beginning, run_from, run_plain, write_loop,
 };
-use machine::Opcode;
 use std::alloc::Global;
 use std::process::Abort;
 use std::test::Fail;
-
-/// What each opcode gives of its operands.
-const ARITHMETIC: &[(Opcode, &[i64], i64)] = &[
-    (Opcode::Add, &[i64::MAX, 1], i64::MIN),
-    (Opcode::Sub, &[i64::MIN, 1], i64::MAX),
-    (Opcode::Mul, &[i64::MAX, 2], -2),
-    (Opcode::And, &[-2, 7], 6),
-    (Opcode::Or, &[i64::MIN, 1], -9_223_372_036_854_775_807),
-    (Opcode::Xor, &[-1, 5], -6),
-    (Opcode::Min, &[-1, 0], -1),
-    (Opcode::Max, &[-1, 0], 0),
-    (Opcode::Lt, &[-1, 0], 1),
-    (Opcode::Lt, &[0, -1], 0),
-    (Opcode::Sel, &[-1, 2, 3], 2),
-    (Opcode::Sel, &[0, 2, 3], 3),
-    (Opcode::Mov, &[-7], -7),
-];
-
-#[test]
-fn computes(rt: HostRuntime) {
-    for (opcode, operands, wanted) in ARITHMETIC {
-        assert_eq!(rt; apply(*opcode, operands), *wanted);
-    }
-}
 
 /// The last loop of a text.
 fn one(alloc: Global, text: &str) -> Result<Loop, Fail> {

@@ -10,13 +10,13 @@ use smallvec::SmallVec;
 use std::alloc::Global;
 use std::process::Abort;
 
-/// An operation: its row, stage, latency and alternative; what it does; the register that it writes; what it reads; and the cell that it touches.
+/// An operation: its row, stage, latency and alternative; what it does; the register that it writes; what it reads; and the array and the place in it of the cell that it touches.
 pub(super) type BriefOperation = (
     (u16, u8, u8, u8),
     Opcode,
     Option<u16>,
     &'static [Source],
-    Option<Address>,
+    Option<(u8, i16)>,
 );
 
 /// A kernel. Its parameters have the value 3.
@@ -28,7 +28,7 @@ pub(super) struct Brief {
     pub(super) params: &'static [&'static str],
     pub(super) arrays: &'static [&'static str],
     pub(super) operations: &'static [BriefOperation],
-    pub(super) preloads: &'static [Preload],
+    pub(super) preloads: &'static [(u16, i64)],
     pub(super) outs: &'static [(&'static str, u16)],
 }
 
@@ -44,6 +44,14 @@ pub(super) const BARE: Brief = Brief {
     outs: &[],
 };
 
+/// The cell that an operation touches.
+fn address(cell: Option<(u8, i16)>) -> Option<Address> {
+    match cell {
+        Some((array, offset)) => Some(Address { array, offset }),
+        None => None,
+    }
+}
+
 /// An operation that is given.
 fn operation(rt: &impl Abort, alloc: Global, given: &BriefOperation) -> Operation {
     let sources = SmallVec::from_slice(alloc, given.3).expect(rt, "memory");
@@ -55,7 +63,7 @@ fn operation(rt: &impl Abort, alloc: Global, given: &BriefOperation) -> Operatio
         alternative: given.0.3,
         destination: given.2,
         sources: Sources::new(sources),
-        address: given.4,
+        address: address(given.4),
     }
 }
 
@@ -103,9 +111,18 @@ fn outs(rt: &impl Abort, alloc: Global, pairs: &[(&str, u16)]) -> Outs {
     Outs::new(list)
 }
 
+/// Initial values of registers.
+fn preloads(rt: &impl Abort, alloc: Global, pairs: &[(u16, i64)]) -> Preloads {
+    let mut list = Vec::new(alloc);
+    for (register, value) in pairs {
+        let (register, value) = (*register, *value);
+        list.push(Preload { register, value }).expect(rt, "memory");
+    }
+    Preloads::new(list)
+}
+
 /// The parts of a kernel.
 pub(super) fn parts_of(rt: &impl Abort, alloc: Global, brief: &Brief) -> Parts {
-    let preloads = Vec::from_slice(alloc, brief.preloads).expect(rt, "memory");
     Parts {
         ii: brief.ii,
         stages: brief.stages,
@@ -113,7 +130,7 @@ pub(super) fn parts_of(rt: &impl Abort, alloc: Global, brief: &Brief) -> Parts {
         params: params(rt, alloc, brief.params),
         arrays: arrays(rt, alloc, brief.arrays),
         operations: operations(rt, alloc, brief.operations),
-        preloads: Preloads::new(preloads),
+        preloads: preloads(rt, alloc, brief.preloads),
         outs: outs(rt, alloc, brief.outs),
     }
 }

@@ -4,11 +4,11 @@ ghost use Rattle.std.specs.Prelude.{◌≤◌, ◌≤ℤ◌, ◌<ℤ◌, pos, ne
 
 use super::briefs::{BARE, Brief, kernel_of};
 use super::numbers::loop_of;
+use kernel::Kernel;
 use kernel::Source::{Constant, Register};
-use kernel::{Address, Kernel, Preload};
 use kernel_runs::{Guess, simulate_from, simulate_in_halves};
 use loops::{Loop, Memory, opening};
-use machine::Opcode;
+use machine::Opcode::{Add, Store};
 use std::alloc::Global;
 use std::process::Abort;
 use std::thread::Threads;
@@ -26,26 +26,14 @@ const COUNTING: Brief = Brief {
     operations: &[
         (
             (0, 0, 1, 0),
-            Opcode::Add,
+            Add,
             Some(0),
             &[Register(1), Constant(1)],
             None,
         ),
-        (
-            (0, 1, 1, 0),
-            Opcode::Store,
-            None,
-            &[Register(1)],
-            Some(Address {
-                array: 0,
-                offset: -1,
-            }),
-        ),
+        ((0, 1, 1, 0), Store, None, &[Register(1)], Some((0, -1))),
     ],
-    preloads: &[Preload {
-        register: 1,
-        value: 10,
-    }],
+    preloads: &[(1, 10)],
     outs: &[("x", 1)],
     ..BARE
 };

@@ -2,12 +2,12 @@
 
 ghost use Rattle.rotating.specs.Allotments.{Suits};
 
-use figures::{Figures, figures_of};
-use kernel::{Kernel, kernel_text};
+use figures::figures_of;
+use kernel::kernel_text;
 use loop_schedules::{Prepared, Schedule};
 use loops::{Loop, read_loops};
-use machine::{Machine, read_machine};
-use rotating::{Allotment, emit, first_without_number, last_landing, least_registers};
+use machine::read_machine;
+use rotating::{Allotment, emit, first_without_number};
 use std::alloc::Global;
 use std::process::Abort;
 use worked_texts::{ACC, M1};
@@ -66,16 +66,12 @@ pub(super) fn loop_of(rt: &impl Abort, alloc: Global, text: &str) -> Loop {
     loops.pop().expect(rt, "a loop")
 }
 
-/// The loop of a text, prepared for a machine.
-fn prepared_for(rt: &impl Abort, alloc: Global, machine: &Machine, text: &str) -> Prepared {
-    let innermost = loop_of(rt, alloc, text);
-    Prepared::new(alloc, machine, innermost, 6, 32).expect(rt, "a machine with all opcodes")
-}
-
-/// The loop of a case.
+/// The loop of a case, prepared for its machine.
 fn prepared(rt: &impl Abort, alloc: Global, case: &Case) -> Prepared {
     let machine = read_machine(alloc, case.machine.as_bytes()).expect(rt, "a machine");
-    prepared_for(rt, alloc, &machine, case.text)
+    let innermost = loop_of(rt, alloc, case.text);
+    let prepared = Prepared::new(alloc, &machine, innermost, 6, 32);
+    prepared.expect(rt, "a machine with all opcodes")
 }
 
 /// The schedule of a case.
@@ -90,12 +86,6 @@ fn scheduled<'a>(
     found.expect(rt, "a schedule")
 }
 
-/// A kernel has this text.
-pub(super) fn is_text(rt: &impl Abort, alloc: Global, kernel: &Kernel, wanted: &str) -> bool {
-    let text = kernel_text(alloc, kernel).expect(rt, "memory");
-    text.as_str() == wanted
-}
-
 /// The kernel of an allotment has this text.
 fn has_text(
     rt: &impl Abort,
@@ -108,48 +98,32 @@ fn has_text(
 {
     let innermost = schedule.prepared().innermost();
     let kernel = emit(alloc, innermost, schedule, allotment).expect(rt, "memory");
-    is_text(rt, alloc, &kernel, wanted)
-}
-
-/// The numbers of a case.
-fn numbers_of(rt: &impl Abort, alloc: Global, case: &Case) -> Vec<usize> {
-    Vec::from_slice(alloc, case.numbers).expect(rt, "memory")
+    let text = kernel_text(alloc, &kernel).expect(rt, "memory");
+    text.as_str() == wanted
 }
 
 /// The numbers of a case come to what is wanted for its schedule.
 fn is_numbered(rt: &impl Abort, alloc: Global, schedule: &Schedule, case: &Case) -> bool {
     let registers = u64::from(case.registers).max(1);
-    match Allotment::check(schedule, registers, numbers_of(rt, alloc, case)) {
+    let numbers = Vec::from_slice(alloc, case.numbers).expect(rt, "memory");
+    match Allotment::check(schedule, registers, numbers) {
         Ok(allotment) => has_text(rt, alloc, schedule, &allotment, case.wanted),
         Err(_numbers) => case.wanted.is_empty(),
     }
 }
 
-/// These figures are wanted.
-fn are_wanted(figures: &Figures, wanted: &Wanted) -> bool {
+/// A schedule has the figures that are wanted.
+fn has_figures(rt: &impl Abort, alloc: Global, schedule: &Schedule, wanted: &Wanted) -> bool {
+    let figures = figures_of(alloc, schedule).expect(rt, "memory");
     figures.cycles == wanted.cycles
         && figures.slacks.as_slice() == wanted.slacks
         && figures.need == Some(wanted.need)
 }
 
-/// A schedule has the figures that are wanted, all together.
-fn has_figures(rt: &impl Abort, alloc: Global, schedule: &Schedule, wanted: &Wanted) -> bool {
-    let figures = figures_of(alloc, schedule).expect(rt, "memory");
-    are_wanted(&figures, wanted)
-}
-
-/// It has those that have calls of their own.
-fn has_each(rt: &impl Abort, alloc: Global, schedule: &Schedule, wanted: &Wanted) -> bool {
-    let need = least_registers(alloc, schedule).expect(rt, "memory");
-    last_landing(schedule) == wanted.cycles && need == Some(wanted.need)
-}
-
 /// A schedule comes to what is wanted of a case.
 fn comes_to(rt: &impl Abort, alloc: Global, schedule: &Schedule, case: &Case) -> bool {
     let is_figured = match &case.figures {
-        Some(wanted) => {
-            has_figures(rt, alloc, schedule, wanted) && has_each(rt, alloc, schedule, wanted)
-        }
+        Some(wanted) => has_figures(rt, alloc, schedule, wanted),
         None => true,
     };
     is_figured && is_numbered(rt, alloc, schedule, case)

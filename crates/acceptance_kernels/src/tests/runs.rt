@@ -3,10 +3,9 @@
 use super::briefs::{BARE, Brief, BriefOperation, kernel_of};
 use super::numbers::loop_of;
 use kernel::Source::{Constant, Register};
-use kernel::{Address, Kernel, Preload};
 use kernel_runs::{simulate, simulate_from};
 use loops::{Memory, RunFault, opening};
-use machine::Opcode;
+use machine::Opcode::{Add, Load, Mov, Store};
 use std::alloc::Global;
 use std::process::Abort;
 use worked_texts::SUM;
@@ -17,16 +16,7 @@ pub(super) const SHARING: Brief = Brief {
     registers: 4,
     arrays: &["a", "c", "b"],
     operations: &[
-        (
-            (0, 0, 1, 0),
-            Opcode::Load,
-            Some(0),
-            &[],
-            Some(Address {
-                array: 0,
-                offset: 0,
-            }),
-        ),
+        ((0, 0, 1, 0), Load, Some(0), &[], Some((0, 0))),
         SHARED_LOAD,
         SHARED_SUM,
         SHARED_STORE,
@@ -34,20 +24,11 @@ pub(super) const SHARING: Brief = Brief {
     ..BARE
 };
 
-pub(super) const SHARED_LOAD: BriefOperation = (
-    (1, 0, 1, 0),
-    Opcode::Load,
-    Some(0),
-    &[],
-    Some(Address {
-        array: 1,
-        offset: 0,
-    }),
-);
+pub(super) const SHARED_LOAD: BriefOperation = ((1, 0, 1, 0), Load, Some(0), &[], Some((1, 0)));
 
 pub(super) const SHARED_SUM: BriefOperation = (
     (2, 0, 1, 0),
-    Opcode::Add,
+    Add,
     Some(1),
     &[Register(0), Register(0)],
     None,
@@ -55,27 +36,21 @@ pub(super) const SHARED_SUM: BriefOperation = (
 
 pub(super) const SHARED_STORE: BriefOperation = (
     (3, 0, 1, 0),
-    Opcode::Store,
+    Store,
     None,
     &[Register(1)],
-    Some(Address {
-        array: 2,
-        offset: 0,
-    }),
+    Some((2, 0)),
 );
 
 const CELLS: &str = "loop cells\narray b = 9 9\nstore b[i] 0\nend\n";
 
 /// The first cell of the first array, in each iteration.
-const CELL: Option<Address> = Some(Address {
-    array: 0,
-    offset: 0,
-});
+const CELL: Option<(u8, i16)> = Some((0, 0));
 
 /// A kernel of one stage with one register and one array, at the interval 1. Its stores of three iterations are issued in the cycles 0, 1 and 2, the run's last, and land at 64, 65 and 66.
 const LATE: Brief = Brief {
     arrays: &["b"],
-    operations: &[((0, 0, 64, 0), Opcode::Store, None, &[Constant(5)], CELL)],
+    operations: &[((0, 0, 64, 0), Store, None, &[Constant(5)], CELL)],
     ..BARE
 };
 
@@ -84,8 +59,8 @@ const LATER_ISSUE: Brief = Brief {
     ii: 2,
     arrays: &["b"],
     operations: &[
-        ((0, 0, 2, 0), Opcode::Store, None, &[Constant(1)], CELL),
-        ((1, 0, 1, 0), Opcode::Store, None, &[Constant(2)], CELL),
+        ((0, 0, 2, 0), Store, None, &[Constant(1)], CELL),
+        ((1, 0, 1, 0), Store, None, &[Constant(2)], CELL),
     ],
     ..BARE
 };
@@ -94,8 +69,8 @@ const LATER_ISSUE: Brief = Brief {
 const HIGHER_NUMBER: Brief = Brief {
     arrays: &["b"],
     operations: &[
-        ((0, 0, 1, 0), Opcode::Store, None, &[Constant(1)], CELL),
-        ((0, 0, 1, 0), Opcode::Store, None, &[Constant(2)], CELL),
+        ((0, 0, 1, 0), Store, None, &[Constant(1)], CELL),
+        ((0, 0, 1, 0), Store, None, &[Constant(2)], CELL),
     ],
     ..BARE
 };
@@ -113,22 +88,16 @@ const GUARDED: Brief = Brief {
     registers: 2,
     arrays: &["a", "b"],
     operations: &[
-        ((0, 0, 1, 0), Opcode::Load, Some(0), &[], CELL),
+        ((0, 0, 1, 0), Load, Some(0), &[], CELL),
         (
             (0, 1, 1, 0),
-            Opcode::Store,
+            Store,
             None,
             &[Constant(7), Register(1)],
-            Some(Address {
-                array: 1,
-                offset: -1,
-            }),
+            Some((1, -1)),
         ),
     ],
-    preloads: &[Preload {
-        register: 1,
-        value: 1,
-    }],
+    preloads: &[(1, 1)],
     ..BARE
 };
 
@@ -142,15 +111,12 @@ const COUNTING: Brief = Brief {
     registers: 2,
     operations: &[(
         (0, 0, 1, 0),
-        Opcode::Add,
+        Add,
         Some(0),
         &[Register(1), Constant(1)],
         None,
     )],
-    preloads: &[Preload {
-        register: 1,
-        value: 10,
-    }],
+    preloads: &[(1, 10)],
     outs: &[("x", 0)],
     ..BARE
 };
@@ -165,29 +131,17 @@ const MOVED: Brief = Brief {
     registers: 8,
     arrays: &["b"],
     operations: &[
-        ((0, 0, 1, 0), Opcode::Mov, Some(1), &[Constant(7)], None),
+        ((0, 0, 1, 0), Mov, Some(1), &[Constant(7)], None),
         (
             (1, 1, 1, 0),
-            Opcode::Add,
+            Add,
             Some(1),
             &[Register(2), Constant(1)],
             None,
         ),
-        (
-            (1, 2, 1, 0),
-            Opcode::Store,
-            None,
-            &[Register(2)],
-            Some(Address {
-                array: 0,
-                offset: -2,
-            }),
-        ),
+        ((1, 2, 1, 0), Store, None, &[Register(2)], Some((0, -2))),
     ],
-    preloads: &[Preload {
-        register: 1,
-        value: 5,
-    }],
+    preloads: &[(1, 5)],
     ..BARE
 };
 
@@ -197,28 +151,19 @@ const MOVED: Brief = Brief {
 const KEPT: Brief = Brief {
     registers: 2,
     operations: &[
-        ((0, 0, 1, 0), Opcode::Mov, Some(0), &[Constant(1)], None),
+        ((0, 0, 1, 0), Mov, Some(0), &[Constant(1)], None),
         (
             (0, 0, 3, 0),
-            Opcode::Add,
+            Add,
             Some(1),
             &[Constant(2), Constant(0)],
             None,
         ),
     ],
-    preloads: &[Preload {
-        register: 1,
-        value: 0,
-    }],
+    preloads: &[(1, 0)],
     outs: &[("x", 0)],
     ..BARE
 };
-
-/// The memory before the first iteration of the loop of this text.
-fn opened(rt: &impl Abort, alloc: Global, text: &str, trip: u64) -> Memory {
-    let innermost = loop_of(rt, alloc, text);
-    opening(alloc, &innermost, trip).expect(rt, "memory")
-}
 
 /// The cells of an array are these from cell 0 on, and the one before them is 0.
 fn has_cells(row: &[i64], cells: &[i64]) -> bool {
@@ -238,202 +183,85 @@ fn has_arrays(memory: &Memory, arrays: &[&[i64]]) -> bool {
     true
 }
 
-/// A memory has this value that is live at the end, or none.
-fn has_out(memory: &Memory, out: Option<i64>) -> bool {
-    match out {
-        Some(value) => memory.out_count() == 1 && memory.out(0) == value,
-        None => memory.out_count() == 0,
+/// A memory has these values that are live at the end.
+fn has_outs(memory: &Memory, outs: &[i64]) -> bool {
+    if memory.out_count() != outs.len() {
+        return false;
     }
+    for out in 0..outs.len() {
+        if memory.out(out) != outs[out] {
+            return false;
+        }
+    }
+    true
 }
 
-/// What a run comes to: what it leaves in the arrays and in the value that is live at the end, or why there is none.
-type Left = Result<(&'static [&'static [i64]], Option<i64>), RunFault>;
-
-/// A run: what it shows, its kernel, the loop that opens its memory, for how many iterations it does and how many are run, and what that comes to.
-type Run = (&'static str, &'static Brief, &'static str, (u64, u64), Left);
+/// A run: its kernel, the loop that opens its memory, for how many iterations, and what it leaves in the arrays and in the values that are live at the end.
+type Run = (
+    &'static Brief,
+    &'static str,
+    u64,
+    &'static [&'static [i64]],
+    &'static [i64],
+);
 
 const RUNS: &[Run] = &[
+    // a shared register
     (
-        "a shared register",
         &SHARING,
         SUM,
-        (2, 2),
-        Ok((&[&[1, 2, 0], &[10, 20, 0], &[20, 40, 0]], None)),
+        2,
+        &[&[1, 2, 0], &[10, 20, 0], &[20, 40, 0]],
+        &[],
     ),
-    (
-        "landing after the end",
-        &LATE,
-        CELLS,
-        (3, 3),
-        Ok((&[&[5, 5, 5, 0]], None)),
-    ),
-    (
-        "no landing",
-        &LATE,
-        CELLS,
-        (0, 0),
-        Ok((&[&[9, 9, 0]], None)),
-    ),
-    (
-        "the later issue lands last",
-        &LATER_ISSUE,
-        CELLS,
-        (1, 1),
-        Ok((&[&[2, 9, 0]], None)),
-    ),
-    (
-        "no issue",
-        &LATER_ISSUE,
-        CELLS,
-        (0, 0),
-        Ok((&[&[9, 9, 0]], None)),
-    ),
-    (
-        "the higher number lands last",
-        &HIGHER_NUMBER,
-        CELLS,
-        (1, 1),
-        Ok((&[&[2, 9, 0]], None)),
-    ),
-    (
-        "no number",
-        &HIGHER_NUMBER,
-        CELLS,
-        (0, 0),
-        Ok((&[&[9, 9, 0]], None)),
-    ),
-    (
-        "no guard",
-        &GUARDED,
-        GUARD,
-        (0, 0),
-        Ok((&[&[0, 3, 0], &[9, 9, 0]], None)),
-    ),
-    (
-        "a guard of 0",
-        &GUARDED,
-        GUARD,
-        (1, 1),
-        Ok((&[&[0, 3, 0], &[9, 9, 0]], None)),
-    ),
-    (
-        "a guard that is not 0",
-        &GUARDED,
-        GUARD,
-        (2, 2),
-        Ok((&[&[0, 3, 0], &[9, 7, 0]], None)),
-    ),
-    (
-        "the value of no turn",
-        &COUNTING,
-        COUNT,
-        (0, 0),
-        Ok((&[], Some(10))),
-    ),
-    (
-        "the value of a turn",
-        &COUNTING,
-        COUNT,
-        (1, 1),
-        Ok((&[], Some(11))),
-    ),
-    (
-        "the value of the last turn",
-        &COUNTING,
-        COUNT,
-        (2, 2),
-        Ok((&[], Some(12))),
-    ),
-    (
-        "initial values live from the first cycle",
-        &MOVED,
-        CELLS,
-        (3, 3),
-        Ok((&[&[8, 9, 10]], None)),
-    ),
-    (
-        "live values stay until the last landing",
-        &KEPT,
-        COUNT,
-        (2, 2),
-        Ok((&[], Some(2))),
-    ),
-];
-
-const NO_OUT: &str = "loop none\ninit x@1 = 10\nx = add x@1 1\nend\n";
-
-const ONE_ARRAY: &str = "loop more\narray a =\ninit x@1 = 10\nx = add x@1 1\nout x\nend\n";
-
-/// The counting kernel on the memory that a loop has for one iteration.
-const REFUSED: &[Run] = &[
-    (
-        "too many iterations",
-        &COUNTING,
-        COUNT,
-        (1, 100_001),
-        Err(RunFault::Trip),
-    ),
-    (
-        "another number of iterations",
-        &COUNTING,
-        COUNT,
-        (1, 2),
-        Err(RunFault::Shape),
-    ),
-    (
-        "no live value",
-        &COUNTING,
-        NO_OUT,
-        (1, 1),
-        Err(RunFault::Shape),
-    ),
-    (
-        "an array too many",
-        &COUNTING,
-        ONE_ARRAY,
-        (1, 1),
-        Err(RunFault::Shape),
-    ),
+    // landing after the end
+    (&LATE, CELLS, 3, &[&[5, 5, 5, 0]], &[]),
+    // no landing
+    (&LATE, CELLS, 0, &[&[9, 9, 0]], &[]),
+    // the later issue lands last
+    (&LATER_ISSUE, CELLS, 1, &[&[2, 9, 0]], &[]),
+    // no issue
+    (&LATER_ISSUE, CELLS, 0, &[&[9, 9, 0]], &[]),
+    // the higher number lands last
+    (&HIGHER_NUMBER, CELLS, 1, &[&[2, 9, 0]], &[]),
+    // no number
+    (&HIGHER_NUMBER, CELLS, 0, &[&[9, 9, 0]], &[]),
+    // no guard
+    (&GUARDED, GUARD, 0, &[&[0, 3, 0], &[9, 9, 0]], &[]),
+    // a guard of 0
+    (&GUARDED, GUARD, 1, &[&[0, 3, 0], &[9, 9, 0]], &[]),
+    // a guard that is not 0
+    (&GUARDED, GUARD, 2, &[&[0, 3, 0], &[9, 7, 0]], &[]),
+    // the value of no turn
+    (&COUNTING, COUNT, 0, &[], &[10]),
+    // the value of a turn
+    (&COUNTING, COUNT, 1, &[], &[11]),
+    // the value of the last turn
+    (&COUNTING, COUNT, 2, &[], &[12]),
+    // initial values live from the first cycle
+    (&MOVED, CELLS, 3, &[&[8, 9, 10]], &[]),
+    // live values stay until the last landing
+    (&KEPT, COUNT, 2, &[], &[2]),
 ];
 
 /// A run leaves what it has to.
 fn is_left(after: &Memory, run: &Run) -> bool {
-    match run.4 {
-        Ok((arrays, out)) => {
-            after.trip() == run.3.1 && has_arrays(after, arrays) && has_out(after, out)
-        }
-        Err(_) => false,
-    }
+    after.trip() == run.2 && has_arrays(after, run.3) && has_outs(after, run.4)
 }
 
-/// There is no run, for the reason that there has to be.
-fn is_refused(fault: RunFault, run: &Run) -> bool {
-    match run.4 {
-        Ok(_) => false,
-        Err(wanted) => fault == wanted,
-    }
+/// The memory before the first iteration of the loop of this text.
+fn opened(rt: &impl Abort, alloc: Global, text: &str, trip: u64) -> Memory {
+    let innermost = loop_of(rt, alloc, text);
+    opening(alloc, &innermost, trip).expect(rt, "memory")
 }
 
-/// What a kernel came to is what it has to come to.
-fn is_wanted(answer: Result<Memory, RunFault>, run: &Run) -> bool {
-    match answer {
-        Ok(after) => is_left(&after, run),
-        Err(fault) => is_refused(fault, run),
-    }
-}
-
-/// The kernel of a run comes to what it has to on a memory, which is kept or given away.
-fn runs_on(rt: &impl Abort, alloc: Global, memory: Memory, run: &Run) -> bool {
-    let kernel = kernel_of(rt, alloc, run.1);
-    let kept = simulate(alloc, &kernel, run.3.1, &memory);
-    let given = simulate_from(alloc, &kernel, run.3.1, memory);
-    is_wanted(kept, run) && is_wanted(given, run)
-}
-
-/// A run comes to what it has to.
+/// A run leaves what it has to, on a memory that is kept and on one that is given away.
 fn is_met(rt: &impl Abort, alloc: Global, run: &Run) -> bool {
-    let memory = opened(rt, alloc, run.2, run.3.0);
-    runs_on(rt, alloc, memory, run)
+    let kernel = kernel_of(rt, alloc, run.0);
+    let memory = opened(rt, alloc, run.1, run.2);
+    let kept = simulate(alloc, &kernel, run.2, &memory).expect(rt, "a run");
+    let given = simulate_from(alloc, &kernel, run.2, memory).expect(rt, "a run");
+    is_left(&kept, run) && is_left(&given, run)
 }
 
 // (A function that names a table repeats its value in each step of its proof.)
@@ -441,20 +269,33 @@ fn runs_of_kernels() -> &'static [Run] {
     RUNS
 }
 
-fn refused_runs() -> &'static [Run] {
-    REFUSED
-}
-
 #[test]
 fn runs(rt: HostRuntime) {
     for run in runs_of_kernels() {
-        assert!(rt; is_met(&rt, rt.alloc(), run), "{}", run.0);
+        assert!(rt; is_met(&rt, rt.alloc(), run), "{} for {}", run.1, run.2);
     }
 }
 
+const NO_OUT: &str = "loop none\ninit x@1 = 10\nx = add x@1 1\nend\n";
+
+const ONE_ARRAY: &str = "loop more\narray a =\ninit x@1 = 10\nx = add x@1 1\nout x\nend\n";
+
+/// For how many iterations the counting kernel is refused to run, on the memory that a loop has for one iteration: too many, another number, and where the memory has no live value, or an
+/// array too many.
+const REFUSED: &[(&str, u64, RunFault)] = &[
+    (COUNT, 100_001, RunFault::Trip),
+    (COUNT, 2, RunFault::Shape),
+    (NO_OUT, 1, RunFault::Shape),
+    (ONE_ARRAY, 1, RunFault::Shape),
+];
+
 #[test]
 fn refuses_to_run(rt: HostRuntime) {
-    for run in refused_runs() {
-        assert!(rt; is_met(&rt, rt.alloc(), run), "{}", run.0);
+    let kernel = kernel_of(&rt, rt.alloc(), &COUNTING);
+    for (text, trip, fault) in REFUSED {
+        let memory = opened(&rt, rt.alloc(), text, 1);
+        let kept = simulate(rt.alloc(), &kernel, *trip, &memory).err();
+        let given = simulate_from(rt.alloc(), &kernel, *trip, memory).err();
+        assert!(rt; kept == Some(*fault) && given == Some(*fault), "{text}");
     }
 }

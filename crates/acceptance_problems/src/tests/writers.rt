@@ -24,17 +24,11 @@ const WHOLE: &str =
     "ab c18446744073709551615-9223372036854775808 mii 10 delay -4+0-1 x y@16:\nloops 3 met 2 failed 1\n";
 
 #[test]
-fn strings(rt: HostRuntime) {
+fn strings_and_bytes(rt: HostRuntime) {
     let mut text = String::new(rt.alloc());
-    let pushed = push_all(&mut text);
-    assert!(rt; pushed.is_ok());
+    assert!(rt; push_all(&mut text).is_ok());
     assert!(rt; text.as_str() == WHOLE);
-}
-
-#[test]
-fn bytes(rt: HostRuntime) {
     let mut text = Vec::new(rt.alloc());
-    let pushed = push_all(&mut text);
-    assert!(rt; pushed.is_ok());
+    assert!(rt; push_all(&mut text).is_ok());
     assert!(rt; text.as_slice() == WHOLE.as_bytes());
 }

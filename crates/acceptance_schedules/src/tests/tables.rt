@@ -1,4 +1,4 @@
-//! The worked table of calls on each table, and the tables side by side.
+//! The worked table of calls on each table.
 
 ghost use Rattle.std.specs.Prelude.{◌≡◌, ◌+◌, ◌^◌, ◌<◌, ◌≤◌, ◌∷◌, ◌++◌, [], ℕ, length, slice_index_or, replicate, None, IfOk, OnOk, vec_len};
 ghost use Rattle.machine_data.specs.Alternative.{IsAlternative};
@@ -212,96 +212,6 @@ fn turn<T: ModuloTable>(
     slot
 }
 
-/// What an empty table answers as operations come and go.
-fn answers<T: ModuloTable>(
-    rt: &impl Abort,
-    alloc: Global,
-    table: &mut T,
-) -> Vec<Option<(u64, usize)>>
-    requires count { length (T.operations table.old) ≡ 65 }
-    requires few { T.interval table.old ≤ 128 }
-    requires empty { T.placed table.old ≡ replicate (length (T.operations table.old)) None }
-    ensures count { length (T.operations table.new) ≡ 65 }
-{
-    let mut held = vec![in alloc; false; 65].expect(rt, "memory");
-    let mut answers = Vec::new(alloc);
-    for step in 0..300 {
-        let op = step * step % 65;
-        let answer = turn(table, &mut held, op, step as u64 / 3);
-        answers.push(answer).expect(rt, "memory");
-    }
-    answers
-}
-
-/// The answers of a table that is made for an interval.
-fn made<T: ModuloTable>(rt: &impl Abort, alloc: Global, ii: u64) -> Vec<Option<(u64, usize)>>
-    requires some { 0 < ii }
-    requires few { ii ≤ 128 }
-{
-    let operations = wide(alloc).expect(rt, "memory");
-    let mut table = T::make(alloc, &operations, ii).expect(rt, "memory");
-    answers(rt, alloc, &mut table)
-}
-
-/// The answers of a table that has served at another interval before.
-fn made_from<T: ModuloTable>(
-    rt: &impl Abort,
-    alloc: Global,
-    before: u64,
-    ii: u64,
-) -> Vec<Option<(u64, usize)>>
-    requires some_before { 0 < before }
-    requires few_before { before ≤ 128 }
-    requires some { 0 < ii }
-    requires few { ii ≤ 128 }
-{
-    let operations = wide(alloc).expect(rt, "memory");
-    let mut table = T::make(alloc, &operations, before).expect(rt, "memory");
-    let _ = answers(rt, alloc, &mut table);
-    let mut table = table.at(ii).expect(rt, "memory");
-    answers(rt, alloc, &mut table)
-}
-
-/// A table answers this at an interval, also once it has served at another.
-fn agrees<T: ModuloTable>(
-    rt: &impl Abort,
-    alloc: Global,
-    before: u64,
-    ii: u64,
-    answers: &[Option<(u64, usize)>],
-) -> bool
-    requires some_before { 0 < before }
-    requires few_before { before ≤ 128 }
-    requires some { 0 < ii }
-    requires few { ii ≤ 128 }
-{
-    made::<T>(rt, alloc, ii).as_slice() == answers
-        && made_from::<T>(rt, alloc, before, ii).as_slice() == answers
-}
-
-/// The three tables agree at an interval, also once they have served at another.
-fn all_agree_at(rt: &impl Abort, alloc: Global, before: u64, ii: u64) -> bool
-    requires some_before { 0 < before }
-    requires few_before { before ≤ 128 }
-    requires some { 0 < ii }
-    requires few { ii ≤ 128 }
-{
-    let owners = made::<OwnerTable>(rt, alloc, ii);
-    agrees::<OwnerTable>(rt, alloc, before, ii, &owners)
-        && agrees::<MaskTable>(rt, alloc, before, ii, &owners)
-        && agrees::<TimelineTable>(rt, alloc, before, ii, &owners)
-}
-
-#[test]
-fn all_agree(rt: HostRuntime) {
-    for (before, ii) in [(67, 3), (3, 11), (67, 63), (11, 67)] {
-        assert!(rt;
-            all_agree_at(&rt, rt.alloc(), before, ii),
-            "{ii} after {before}"
-        );
-    }
-}
-
 /// Of two kinds one has another unit to spare, and the third kind has no operation.
 fn push_kinds(alloc: Global, kinds: &mut Vec<Alternatives>) -> Result<(), OutOfMemory>
     ensures { OnOk result (vec_len kinds.new ≡ vec_len kinds.old + 3) }
@@ -316,7 +226,7 @@ fn push_kinds(alloc: Global, kinds: &mut Vec<Alternatives>) -> Result<(), OutOfM
     push_one(alloc, kinds, 2, 0)
 }
 
-/// Operations of the kinds 1, 0, 1 and 1 get these slots, one after another.
+/// Operations of the kinds 1, 0, 1 and 1 get these slots, one after another, and the first one gets its own again.
 fn gives_slots<T: ModuloTable>(table: &mut T) -> bool
     requires count { length (T.operations table.old) ≡ 4 }
     requires interval { T.interval table.old ≡ 2 }
@@ -327,13 +237,16 @@ fn gives_slots<T: ModuloTable>(table: &mut T) -> bool
         && turn(table, &mut held, 1, 0) == Some((1, 0))
         && turn(table, &mut held, 2, 0) == Some((0, 1))
         && turn(table, &mut held, 3, 0) == Some((1, 1))
+        && turn(table, &mut held, 0, 0).is_none()
+        && turn(table, &mut held, 0, 0) == Some((0, 0))
 }
 
-/// Operations that are told by their kinds get the slots of their kinds.
+/// Operations that are told by their kinds get the slots of their kinds, at another interval than that for which the table is made.
 fn takes_kinds<T: ModuloTable>(rt: &impl Abort, alloc: Global) -> bool {
     let mut kinds = Vec::new(alloc);
     push_kinds(alloc, &mut kinds).expect(rt, "memory");
-    let mut table = T::of_kinds(alloc, &kinds, &[1, 0, 1, 1], 2).expect(rt, "memory");
+    let table = T::of_kinds(alloc, &kinds, &[1, 0, 1, 1], 67).expect(rt, "memory");
+    let mut table = table.at(2).expect(rt, "memory");
     gives_slots(&mut table)
 }
 

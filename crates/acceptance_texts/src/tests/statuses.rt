@@ -1,9 +1,9 @@
-//! Lack of memory, which ends a run as such wherever it came up. The lines of the other statuses are told by the program's sessions.
+//! Lack of memory as a status, however it is told. That runs end so wherever memory is refused is shown by `tests/refused_memory`. The lines of the other statuses are told by the program's
+//! sessions.
 
 use exit_status::Status;
 use loops::{LoopFault, LoopFaultKind};
 use machine::MachineFault;
-use problem_faults::ProblemsFault;
 use problem_reader::{TextFault, Wrong as ProblemWrong};
 use solution_reader::{SolutionFault, Wrong as SolutionWrong};
 use std::alloc::Global;
@@ -53,20 +53,4 @@ fn statuses_tell_of_memory(rt: HostRuntime) {
     assert!(rt; is_of_memory(&rt, alloc, Status::Loops(OF_LOOPS)));
     assert!(rt; is_of_memory(&rt, alloc, Status::Problems(OF_PROBLEMS)));
     assert!(rt; is_of_memory(&rt, alloc, Status::Solutions(OF_SOLUTIONS)));
-}
-
-const FAULTS: &[ProblemsFault] = &[
-    ProblemsFault::Memory,
-    ProblemsFault::Problems(OF_PROBLEMS),
-    ProblemsFault::Solutions(OF_SOLUTIONS),
-];
-
-#[test]
-fn faults_tell_of_memory(rt: HostRuntime) {
-    let alloc = rt.alloc();
-    assert!(rt; is_of_memory(&rt, alloc, Status::from(MachineFault::Memory)));
-    assert!(rt; is_of_memory(&rt, alloc, Status::from(OF_LOOPS)));
-    for fault in FAULTS {
-        assert!(rt; is_of_memory(&rt, alloc, Status::from(*fault)), "{fault:?}");
-    }
 }

@@ -119,10 +119,6 @@ fn reads_in_parts(rt: HostRuntime) {
         let left = left(&rt, rt.alloc(), bytes.as_slice(), *stride, *fault);
         assert!(rt; left == *wanted, "{stride}, {fault:?}");
     }
-}
-
-#[test]
-fn reads_many_bytes_in_parts(rt: HostRuntime) {
     let many = pattern(rt.alloc(), 200_000).expect(&rt, "memory");
     assert!(rt; left(&rt, rt.alloc(), many.as_slice(), 4_096, None).is_none());
 }
