@@ -50,9 +50,6 @@ loop-key-preserved c = let h = turned (goal.at.loop-key-preserved c).After-numbe
 pub loop-key-preserved-in_ok-read_operation : goal.loop-key-preserved-in_ok-read_operation
 loop-key-preserved-in_ok-read_operation c = let h = turned (goal.at.loop-key-preserved-in_ok-read_operation c).After-number in record { no_fault = h.0; filled = h.1 }
 
-pub loop-key-preserved-in_ok-read_operation-2 : goal.loop-key-preserved-in_ok-read_operation-2
-loop-key-preserved-in_ok-read_operation-2 c = let h = turned (goal.at.loop-key-preserved-in_ok-read_operation-2 c).After-number in record { no_fault = h.0; filled = h.1 }
-
 pub returns : goal.returns
 returns c =
     let entries = all_entries (goal.at.returns c).After-into_iter-key-iterator in (
